@@ -1,0 +1,4 @@
+pub mod Least
+pub mod Masks
+pub mod Banked
+pub mod Leaps
