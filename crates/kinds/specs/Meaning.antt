@@ -24,6 +24,10 @@ Under (Some t) c = c ≤ t
 abbrev pub Value : Meaning → ℕ → ℕ → Type 0
 Value M l c = Under (M .tops l) c
 
+-- the kind knows the condition
+abbrev pub Known : Meaning → Condition → Type 0
+Known M q = isSome (M .letters q) ≡ true
+
 -- What every kind keeps: tops are at most 999,999,999; the letters of symbols, S (83), and of variables, V (86), are no value
 -- letters; a condition belongs to a letter that is known; and its set has only values of that letter.
 pub record Sound (M : Meaning) : Type 0 where
@@ -31,5 +35,5 @@ pub record Sound (M : Meaning) : Type 0 where
   pub no-symbol : M .tops 83 ≡ None
   pub no-variable : M .tops 86 ≡ None
   pub belongs : (q : Condition) (l : ℕ) → M .letters q ≡ Some l → isSome (M .tops l) ≡ true
-  pub known : (q : Condition) (c : ℕ) → M .holds q c → isSome (M .letters q) ≡ true
+  pub known : (q : Condition) (c : ℕ) → M .holds q c → Known M q
   pub values : (q : Condition) (l c : ℕ) → M .letters q ≡ Some l → M .holds q c → Value M l c

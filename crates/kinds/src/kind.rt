@@ -1,13 +1,9 @@
 // What a kind of values is.
 ghost use mathlib.Core.Path.{_≡_};
-ghost use Prim.Native.Nat.{ℕ, _≤_};
 ghost use Rattle.std.specs.Orderings.{Decides};
-ghost use Rattle.std.specs.Results.{Cases};
 ghost use Rattle.kinds.specs.Meaning.{Meaning, Sound, Value};
 ghost use Rattle.kinds.specs.Smallest.{Smallest};
-ghost use Rattle.kinds.specs.declared.fault.BankFault.the-variants.{Condition as UnknownCondition, Value as UnknownValue};
 use crate::condition::Condition;
-use crate::fault::BankFault;
 
 // Three operations that change nothing and repeat their answers. The letters of symbols and variables, S and V, are
 // never value letters.

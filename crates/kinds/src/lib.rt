@@ -1,5 +1,6 @@
 // Kinds of values: numbers, hours of the week, vehicle classes, and banks of several kinds.
 pub mod bank;
+pub mod check;
 pub mod class;
 pub mod codes;
 pub mod common;
