@@ -6,9 +6,10 @@ use Prim.Native.Nat.{ℕ, zero, suc, _+_, _-_, _<_, _≤_}
 use native.Mathlib.Omega.{arith}
 use lib.ListN.{length, getD, take, drop, replicate}
 use Rattle.std.specs.shelf.Lists.{All}
-use Rattle.std.proofs.shelf.Lists.{take-more, take-append-drop, take-at, take-all, length-take, length-take-le, length-drop, length-append, length-replicate, getD-take, getD-default, getD-past}
+use Rattle.std.proofs.shelf.Lists.{take-more, take-append-drop, take-at, take-all, length-take, length-take-le, length-drop, length-append, length-replicate, getD-default, getD-past}
 use Rattle.std.proofs.shelf.Elements.{all-append, all-take, all-getD, all-more}
 use Rattle.refusals.specs.Places.{First-fault}
+use Rattle.refusals.proofs.Places.{agrees-at}
 use Rattle.kinds.specs.Meaning.{Meaning}
 use Rattle.terms.specs.declared.cell.Cell.{Cell}
 use Rattle.terms.specs.Terms.{arity, Leaves, Are, Fine, Starts, Term}
@@ -95,8 +96,9 @@ module _ (sig : List ℕ) (zero-arity : getD sig 0 0 ≡ 0) (M : Meaning) (v lim
       agrees : (ds : List Cell) → Small-term sig M v limit ds → take (i + 1) ds ≡ take (i + 1) cs → Goes-on sig M v limit (getD cs i d) i to-come
       agrees ds t e =
           let c = getD cs i d in
-          let l : i + 1 ≤ length ds = let p = ap length e in let q = length-take (i + 1) ds in let r = length-take (i + 1) cs in omega arith in
-          let same : getD ds i d ≡ c = sym (getD-take (i + 1) ds i d (omega arith)) ∙ ap (λ xs. getD xs i d) e ∙ getD-take (i + 1) cs i d (omega arith) in
+          let at-i = agrees-at cs ds i here e in
+          let l : i < length ds = at-i .0 in
+          let same : getD ds i d ≡ c = at-i .1 d in
           let whole : Leaves sig 1 (take (i + 1) cs ++ drop (i + 1) ds) 0 =
                 subst (λ (xs : List Cell). Leaves sig 1 xs 0) (sym (take-append-drop (i + 1) ds) ∙ ap (λ xs. xs ++ drop (i + 1) ds) e) (t .term .whole) in
           let parts = leaves-split sig 1 0 (take (i + 1) cs) (drop (i + 1) ds) whole in
