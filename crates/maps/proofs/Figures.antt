@@ -43,7 +43,7 @@ module _ {Row : Type 0} where
       let e = same-members m (x .rows) (y .rows) (x .once) (y .once) (λ r i. y .those r .1 (x .those r .0 i)) (λ r i. x .those r .1 (y .those r .0 i)) in
       (x .counted ∙ e .0 ∙ sym (y .counted), x .added ∙ e .1 ∙ sym (y .added))
 
-  -- figures depend only on the rows that fit, and on no more of these than have a count
+  -- figures depend only on what the map has at the rows that fit
   pub figures-same : (fits : Row → Type 0) (m n : Map Row) (c k : ℕ) → ((r : Row) → fits r → m r ≡ n r) → Figures fits m c k → Figures fits n c k
   figures-same fits m n c k f x = record {
     rows = x .rows;

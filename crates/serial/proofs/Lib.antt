@@ -1,0 +1,2 @@
+mod Covered
+pub mod Invariant

@@ -1,0 +1,6 @@
+pub mod Language
+pub mod Rights
+pub mod History
+pub mod Alone
+pub mod Serial
+pub mod Legal
