@@ -1,2 +1,3 @@
 mod Covered
 pub mod Invariant
+mod Refuted

@@ -4,3 +4,4 @@ pub mod History
 pub mod Alone
 pub mod Serial
 pub mod Legal
+pub mod Samples
