@@ -204,7 +204,7 @@ module _ {Row Pattern : Type 0} (L : Language Row Pattern) (first : Map Row) whe
   inv-next h m (committed t n) m′ i l = after-committed h m i t (l .0) m′ (l .1) n
   inv-next h m (abandoned t n) m′ i l = moved (abandoned t n ∷ h) m m′ (l .1) (after-abandoned h m i t n (l .0))
 
-  invariant : {h : History Row Pattern} {m : Map Row} → Run L first h m → Inv h m
+  pub invariant : {h : History Row Pattern} {m : Map Row} → Run L first h m → Inv h m
   invariant new = inv-new
   invariant (next {h} {m} e m′ run l) = inv-next h m e m′ (invariant run) l
 

@@ -1,3 +1,5 @@
 mod Covered
-pub mod Invariant
 mod Refuted
+pub mod Invariant
+pub mod Rolls
+pub mod Ties

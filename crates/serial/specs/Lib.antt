@@ -5,3 +5,4 @@ pub mod Alone
 pub mod Serial
 pub mod Legal
 pub mod Samples
+pub mod Machine

@@ -2,6 +2,7 @@
 ghost use Rattle.serial.specs.Language.{Language};
 ghost use Rattle.serial.specs.Alone.{SurveysPinned};
 ghost use Rattle.serial.specs.Legal.{Serializable};
+ghost use Rattle.serial.specs.Machine.{MachineRuns};
 ghost use Rattle.serial.specs.Samples.{NotSerial, overlapping, lostUpdate, halfSeen};
 
 // Rows R and patterns P: how rows are told apart, and which rows fit a pattern. An implementor stands for one such language.
@@ -17,6 +18,12 @@ pub fn serial_stands<R, P, F: Fitting<R, P>>() -> u8
 
 pub fn surveys_stand<R, P, F: Fitting<R, P>>() -> u8
     ensures { λ _. ⌜ SurveysPinned (F·Fitting .language) ⌝ }
+{
+    0
+}
+
+pub fn machine_stands<R, P, F: Fitting<R, P>>() -> u8
+    ensures { λ _. ⌜ MachineRuns (F·Fitting .language) ⌝ }
 {
     0
 }
