@@ -3,3 +3,5 @@ mod Refuted
 pub mod Invariant
 pub mod Rolls
 pub mod Ties
+pub mod Entering
+pub mod Surveys

@@ -12,8 +12,16 @@ use Rattle.std.specs.declared.option.Option.{Option}
 use Rattle.std.specs.declared.option.Option.the-variants.{Some, None}
 use Rattle.maps.specs.Maps.{In}
 use Rattle.maps.proofs.Lists.{in-kept, kept-in}
-use Rattle.serial.specs.Rights.{Change}
+use Rattle.serial.specs.Rights.{Change, Change.written, Change.struck, becomes}
 use Rattle.serial.specs.Machine.{Pending, KeysOnce, leave, isFor, pendingOf, enter}
+
+-- a later change makes the earlier one of no account
+pub becomes-any : (a : Change) (c d : Option ℕ) → becomes a c ≡ becomes a d
+becomes-any (written k) c d = refl
+becomes-any struck c d = refl
+
+pub none-found : (a : Change) → _≡_ {A = Option Change} None (Some a) → ⊥
+none-found a e = let z : _≡_ {A = ℕ} 0 1 = cc in omega arith
 
 module _ {A : Type 0} (owner : A → ℕ) (t : ℕ) where
   pub in-leave : (l : List A) (a : A) → In a (leave owner t l) → In a l × (¬ (owner a ≡ t))
@@ -93,7 +101,7 @@ module _ {Row : Type 0} (same : (r s : Row) → Dec (r ≡ s)) where
       if-neg (isFor same (c .owner) (c .row) b) (λ q. k .0 c x (sym (q .0), sym (q .1))) _ _ ∙ found-in cs (k .1) c x
 
   pub in-found : (cs : List (Pending Row)) (t : ℕ) (r : Row) (a : Change) → pendingOf same t r cs ≡ Some a → In (record { owner = t; row = r; change = a }) cs
-  in-found [] t r a e = absurd (let z : _≡_ {A = ℕ} 0 1 = cc in omega arith)
+  in-found [] t r a e = absurd (none-found a e)
   in-found (b ∷ cs) t r a e = go (isFor same t r b) e (in-found cs t r a)
     where
       inj : (x y : Change) → _≡_ {A = Option Change} (Some x) (Some y) → x ≡ y

@@ -11,22 +11,17 @@ use Rattle.maps.specs.Maps.{Map, Same, In}
 use Rattle.maps.proofs.Lists.{in-push, push-old, push-new}
 use Rattle.maps.proofs.Figures.{figures-same}
 use Rattle.serial.specs.Language.{Language}
-use Rattle.serial.specs.Rights.{Change, Change.written, Change.struck, Right, becomes}
+use Rattle.serial.specs.Rights.{Change, Right, becomes}
 use Rattle.serial.specs.History.{Event, History, Grant, Deed, begins, ends, grants, Open, Stands, script, fed}
 use Rattle.serial.specs.History.{Event.refused, Event.began, Event.reserved, Event.did, Event.committed, Event.abandoned}
 use Rattle.serial.specs.History.{Deed.looked, Deed.surveyed, Deed.changed}
 use Rattle.serial.specs.Alone.{change, after}
 use Rattle.serial.specs.Serial.{Serial}
 use Rattle.serial.specs.Legal.{Own, Allowed, Legal, Run, Run.new, Run.next}
-use Rattle.serial.specs.Machine.{Pending, State, KeysOnce, effect, pendingOf, enter, seen, Mine, Grants, May, gone, Alike, Moves, New, Comes, Comes.anew, Comes.on}
+use Rattle.serial.specs.Machine.{Pending, State, KeysOnce, effect, pendingOf, enter, seen, Mine, Grants, May, holding, gone, Alike, Moves, New, Comes, Comes.anew, Comes.on}
 use Rattle.serial.specs.Machine as machine
 use Rattle.serial.proofs.Invariant.{Inv, invariant, serial}
-use Rattle.serial.proofs.Rolls.{in-leave, stays, pendingOf-none, pendingOf-leave, enter-same, enter-other, in-enter, keys-enter, keys-kept}
-
--- a later change makes the earlier one of no account
-becomes-any : (a : Change) (c d : Option ℕ) → becomes a c ≡ becomes a d
-becomes-any (written k) c d = refl
-becomes-any struck c d = refl
+use Rattle.serial.proofs.Rolls.{in-leave, stays, pendingOf-none, pendingOf-leave, enter-same, enter-other, in-enter, keys-enter, keys-kept, becomes-any}
 
 module _ {Row Pattern : Type 0} (L : Language Row Pattern) where
   pub record Ties (h : History Row Pattern) (s : State Row Pattern) : Type 0 where
@@ -155,14 +150,7 @@ module _ {Row Pattern : Type 0} (L : Language Row Pattern) where
           → ((u : ℕ) (r : Row) → ¬ (u ≡ t) → pendingOf (L .same) u r roll ≡ pendingOf (L .same) u r (s .pending))
           → ((c : Pending Row) → In c roll → In c (s .pending) ⊎ (c .owner ≡ t))
           → KeysOnce roll
-          → Ties (did t d ∷ h) (record {
-            opens = s .opens;
-            held = s .held;
-            pending = roll;
-            lastTransaction = s .lastTransaction;
-            lastReservation = s .lastReservation;
-            store = s .store;
-          })
+          → Ties (did t d ∷ h) (holding L (s .opens) (s .held) roll (s .lastTransaction) (s .lastReservation) (s .store))
       tied-did t d roll open-t own-rows others entries keys = record {
         opens = τ .opens;
         held = τ .held;

@@ -6,3 +6,5 @@ pub mod Serial
 pub mod Legal
 pub mod Samples
 pub mod Machine
+pub mod Entering
+pub mod Surveys

@@ -81,7 +81,7 @@ module _ {Row Pattern : Type 0} (L : Language Row Pattern) where
       (g : Grant Pattern) × Mine s t g × (g .number ≡ n) × Figures (λ r. L .fits r (g .pattern)) (seen s t) number total
   Grants s t (changed r a) = (g : Grant Pattern) × Mine s t g × Allows (g .right) a × L .fits r (g .pattern)
 
-  -- the call may have this answer: numbers are the next ones
+  -- the call may have this answer: a transaction's and a reservation's number is the next one
   abbrev pub May : State Row Pattern → Event Row Pattern → Type 0
   May s (refused c n) = Unit {0}
   May s (began planner t) = t ≡ suc (s .lastTransaction)
@@ -92,46 +92,26 @@ module _ {Row Pattern : Type 0} (L : Language Row Pattern) where
   May s (committed t n) = In t (s .opens)
   May s (abandoned t n) = In t (s .opens)
 
+  -- the state that holds these
+  abbrev pub holding : List ℕ → List (Grant Pattern) → List (Pending Row) → ℕ → ℕ → Map Row → State Row Pattern
+  holding os hs cs t n m = record { opens = os; held = hs; pending = cs; lastTransaction = t; lastReservation = n; store = m }
+
   -- all entries of t have left, and the store has this map
   abbrev pub gone : ℕ → Map Row → State Row Pattern → State Row Pattern
-  gone t m s = record {
-    opens = leave (λ u. u) t (s .opens);
-    held = leave (λ g. g .owner) t (s .held);
-    pending = leave (λ c. c .owner) t (s .pending);
-    lastTransaction = s .lastTransaction;
-    lastReservation = s .lastReservation;
-    store = m;
-  }
+  gone t m s =
+      holding (leave (λ u. u) t (s .opens)) (leave (λ g. g .owner) t (s .held)) (leave (λ c. c .owner) t (s .pending))
+      (s .lastTransaction) (s .lastReservation) m
 
   -- the state after the call with this answer
   abbrev pub next : State Row Pattern → Event Row Pattern → State Row Pattern
   next s (refused c n) = s
-  next s (began planner t) = record {
-    opens = s .opens ++ (t ∷ []);
-    held = s .held;
-    pending = s .pending;
-    lastTransaction = t;
-    lastReservation = s .lastReservation;
-    store = s .store;
-  }
-  next s (reserved t w p n) = record {
-    opens = s .opens;
-    held = s .held ++ (record { owner = t; right = w; pattern = p; number = n } ∷ []);
-    pending = s .pending;
-    lastTransaction = s .lastTransaction;
-    lastReservation = n;
-    store = s .store;
-  }
+  next s (began planner t) = holding (s .opens ++ (t ∷ [])) (s .held) (s .pending) t (s .lastReservation) (s .store)
+  next s (reserved t w p n) =
+      let this : Grant Pattern = record { owner = t; right = w; pattern = p; number = n } in
+      holding (s .opens) (s .held ++ (this ∷ [])) (s .pending) (s .lastTransaction) n (s .store)
   next s (did t (looked r v)) = s
   next s (did t (surveyed n number total)) = s
-  next s (did t (changed r a)) = record {
-    opens = s .opens;
-    held = s .held;
-    pending = enter (L .same) t r a (s .pending);
-    lastTransaction = s .lastTransaction;
-    lastReservation = s .lastReservation;
-    store = s .store;
-  }
+  next s (did t (changed r a)) = holding (s .opens) (s .held) (enter (L .same) t r a (s .pending)) (s .lastTransaction) (s .lastReservation) (s .store)
   next s (committed t n) = gone t (seen s t) s
   next s (abandoned t n) = gone t (s .store) s
 
@@ -148,7 +128,7 @@ module _ {Row Pattern : Type 0} (L : Language Row Pattern) where
   abbrev pub Moves : State Row Pattern → Event Row Pattern → State Row Pattern → Type 0
   Moves s e s′ = May s e × Alike s′ (next s e)
 
-  -- a new manager over the map: nothing is open, and no number was given
+  -- a new manager over the map: its rolls are empty (where its numbers begin is of no account)
   pub record New (first : Map Row) (s : State Row Pattern) : Type 0 where
     pub opens : s .opens ≡ []
     pub held : s .held ≡ []
