@@ -12,13 +12,13 @@ use Rattle.maps.proofs.Lists.{in-push, push-old, push-new}
 use Rattle.maps.proofs.Figures.{figures-same}
 use Rattle.serial.specs.Language.{Language}
 use Rattle.serial.specs.Rights.{Change, Right, becomes}
-use Rattle.serial.specs.History.{Event, History, Grant, Deed, begins, ends, grants, Open, Stands, script, fed}
+use Rattle.serial.specs.History.{Event, History, Grant, Deed, begins, ends, commitNumbers, grants, Open, Stands, script, fed}
 use Rattle.serial.specs.History.{Event.refused, Event.began, Event.reserved, Event.did, Event.committed, Event.abandoned}
 use Rattle.serial.specs.History.{Deed.looked, Deed.surveyed, Deed.changed}
 use Rattle.serial.specs.Alone.{change, after}
 use Rattle.serial.specs.Serial.{Serial}
 use Rattle.serial.specs.Legal.{Own, Allowed, Legal, Run, Run.new, Run.next}
-use Rattle.serial.specs.Machine.{Pending, State, KeysOnce, effect, pendingOf, enter, seen, Mine, Grants, May, holding, gone, Alike, Moves, New, Comes, Comes.anew, Comes.on}
+use Rattle.serial.specs.Machine.{Pending, State, KeysOnce, effect, pendingOf, enter, seen, Mine, Does, May, holding, gone, Alike, Moves, New, Comes, Comes.anew, Comes.on}
 use Rattle.serial.specs.Machine as machine
 use Rattle.serial.proofs.Invariant.{Inv, invariant, serial}
 use Rattle.serial.proofs.Rolls.{in-leave, stays, pendingOf-none, pendingOf-leave, enter-same, enter-other, in-enter, keys-enter, keys-kept, becomes-any}
@@ -30,6 +30,7 @@ module _ {Row Pattern : Type 0} (L : Language Row Pattern) where
     pub pending : (t : ℕ) (r : Row) → Open t h → (c : Option ℕ) → effect (pendingOf (L .same) t r (s .pending)) c ≡ change L (script t h) r c
     pub begun : (t : ℕ) → In t (begins h) → t ≤ s .lastTransaction
     pub granted : (g : Grant Pattern) → In g (grants h) → g .number ≤ s .lastReservation
+    pub answered : (n : ℕ) → In n (commitNumbers h) → n ≤ s .lastCommit
     pub owners : (c : Pending Row) → In c (s .pending) → In (c .owner) (begins h)
     pub ended : (t : ℕ) → In t (ends h) → In t (begins h)
     pub once : KeysOnce (s .pending)
@@ -41,6 +42,7 @@ module _ {Row Pattern : Type 0} (L : Language Row Pattern) where
     pending = λ t r o c. subst (λ l. effect (pendingOf (L .same) t r l) c ≡ change L (script t h) r c) (sym (a .pending)) (τ .pending t r o c);
     begun = λ t b. subst (λ n. t ≤ n) (sym (a .lastTransaction)) (τ .begun t b);
     granted = λ g x. subst (λ n. g .number ≤ n) (sym (a .lastReservation)) (τ .granted g x);
+    answered = λ n x. subst (λ k. n ≤ k) (sym (a .lastCommit)) (τ .answered n x);
     owners = λ c x. τ .owners c (subst (λ l. In c l) (a .pending) x);
     ended = τ .ended;
     once = subst (λ l. KeysOnce l) (sym (a .pending)) (τ .once);
@@ -53,7 +55,7 @@ module _ {Row Pattern : Type 0} (L : Language Row Pattern) where
     own : (t : ℕ) (g : Grant Pattern) → Mine L s t g → Own h t g
     own t g x = (τ .held g .0 (x .0), x .1)
 
-    allowed : (t : ℕ) → Open t h → (d : Deed Row ℕ) → Grants L s t d → Allowed L h t (s .store) d
+    allowed : (t : ℕ) → Open t h → (d : Deed Row ℕ) → Does L s t d → Allowed L h t (s .store) d
     allowed t o (looked r v) x = ((x .0 .0, own t (x .0 .0) (x .0 .1), x .0 .2), x .1 ∙ seen-after t o r)
     allowed t o (surveyed n number total) x = (
       x .0,
@@ -75,7 +77,9 @@ module _ {Row Pattern : Type 0} (L : Language Row Pattern) where
     legal (did t (looked r v)) s′ l = let o = τ .opens t .0 (l .0 .0) in (o, allowed t o (looked r v) (l .0 .1), l .1 .store)
     legal (did t (surveyed n number total)) s′ l = let o = τ .opens t .0 (l .0 .0) in (o, allowed t o (surveyed n number total) (l .0 .1), l .1 .store)
     legal (did t (changed r a)) s′ l = let o = τ .opens t .0 (l .0 .0) in (o, allowed t o (changed r a) (l .0 .1), l .1 .store)
-    legal (committed t n) s′ l = let o = τ .opens t .0 (l .0) in (o, λ r. l .1 .store r ∙ seen-after t o r)
+    legal (committed t n) s′ l =
+        let o = τ .opens t .0 (l .0 .0) in
+        (o, (λ x. let k = τ .answered n x in let q = l .0 .1 in omega arith), λ r. l .1 .store r ∙ seen-after t o r)
     legal (abandoned t n) s′ l = (τ .opens t .0 (l .0), l .1 .store)
 
     module _ (first : Map Row) (i : Inv L first h (s .store)) where
@@ -100,6 +104,7 @@ module _ {Row Pattern : Type 0} (L : Language Row Pattern) where
                 (o .0);
             begun = λ u b. ⊎-elim (λ e. omega arith) (λ y. let k = τ .begun u y in omega arith) b;
             granted = τ .granted;
+            answered = τ .answered;
             owners = λ c x. inr (τ .owners c x);
             ended = λ u z. inr (τ .ended u z);
             once = τ .once;
@@ -120,13 +125,14 @@ module _ {Row Pattern : Type 0} (L : Language Row Pattern) where
             pending = τ .pending;
             begun = τ .begun;
             granted = λ g x. ⊎-elim (λ e. let k : g .number ≡ n = ap (λ z. z .number) e in omega arith) (λ y. let k = τ .granted g y in omega arith) x;
+            answered = τ .answered;
             owners = τ .owners;
             ended = τ .ended;
             once = τ .once;
           }
 
-      tied-committed : (t n : ℕ) (m : Map Row) → In t (s .opens) → Ties (committed t n ∷ h) (gone L t m s)
-      tied-committed t n m was = record {
+      tied-committed : (t n : ℕ) (m : Map Row) → In t (s .opens) → s .lastCommit ≤ n → Ties (committed t n ∷ h) (gone L t n m s)
+      tied-committed t n m was above = record {
         opens = λ u. (
           (λ x. let y = in-leave (λ u. u) t (s .opens) u x in (τ .opens u .0 (y .0) .0, ⊎-elim (y .1) (τ .opens u .0 (y .0) .1))),
           (λ o. stays (λ u. u) t (s .opens) u (τ .opens u .1 (o .0, λ z. o .1 (inr z))) (λ e. o .1 (inl e))),
@@ -139,6 +145,7 @@ module _ {Row Pattern : Type 0} (L : Language Row Pattern) where
             ap (λ z. effect z c) (pendingOf-leave (L .same) t u r (s .pending) (λ e. o .1 (inl e))) ∙ τ .pending u r (o .0, λ z. o .1 (inr z)) c;
         begun = τ .begun;
         granted = τ .granted;
+        answered = λ k. ⊎-elim (λ e. omega arith) (λ y. let z = τ .answered k y in omega arith);
         owners = λ c x. τ .owners c (in-leave (λ c. c .owner) t (s .pending) c x .0);
         ended = λ u. ⊎-elim (λ e. subst (λ v. In v (begins h)) (sym e) (τ .opens t .0 was .0)) (τ .ended u);
         once = keys-kept _ (s .pending) (τ .once);
@@ -150,7 +157,7 @@ module _ {Row Pattern : Type 0} (L : Language Row Pattern) where
           → ((u : ℕ) (r : Row) → ¬ (u ≡ t) → pendingOf (L .same) u r roll ≡ pendingOf (L .same) u r (s .pending))
           → ((c : Pending Row) → In c roll → In c (s .pending) ⊎ (c .owner ≡ t))
           → KeysOnce roll
-          → Ties (did t d ∷ h) (holding L (s .opens) (s .held) roll (s .lastTransaction) (s .lastReservation) (s .store))
+          → Ties (did t d ∷ h) (holding L (s .opens) (s .held) roll (s .lastTransaction) (s .lastReservation) (s .lastCommit) (s .store))
       tied-did t d roll open-t own-rows others entries keys = record {
         opens = τ .opens;
         held = τ .held;
@@ -160,6 +167,7 @@ module _ {Row Pattern : Type 0} (L : Language Row Pattern) where
             (λ ne. ap (λ z. effect z c) (others u r ne) ∙ τ .pending u r o c ∙ sym (ap (λ z. change L z r c) (if-neg (ℕ-discrete u t) ne _ _)));
         begun = τ .begun;
         granted = τ .granted;
+        answered = τ .answered;
         owners = λ c x. ⊎-elim (τ .owners c) (λ e. subst (λ v. In v (begins h)) (sym e) (open-t .0)) (entries c x);
         ended = τ .ended;
         once = keys;
@@ -175,7 +183,7 @@ module _ {Row Pattern : Type 0} (L : Language Row Pattern) where
 
       tied : (e : Event Row Pattern) → May L s e → Ties (e ∷ h) (machine.next L s e)
       tied (refused c n) may = record
-          { opens = τ .opens; held = τ .held; pending = τ .pending; begun = τ .begun; granted = τ .granted; owners = τ .owners; ended = τ .ended; once = τ .once }
+          { opens = τ .opens; held = τ .held; pending = τ .pending; begun = τ .begun; granted = τ .granted; answered = τ .answered; owners = τ .owners; ended = τ .ended; once = τ .once }
       tied (began planner t) may = tied-began planner t may
       tied (reserved t w p n) may = tied-reserved t w p n may
       tied (did t (looked r v)) may =
@@ -187,10 +195,10 @@ module _ {Row Pattern : Type 0} (L : Language Row Pattern) where
           tied-did t (changed r a) (enter (L .same) t r a (s .pending)) o (enters t r a o)
           (λ u q ne. enter-other (L .same) t r a u q (s .pending) (λ e. ne (sym (e .0))))
           (λ c y. ⊎-elim inl (λ z. inr (z .0)) (in-enter (L .same) t r a (s .pending) c y)) (keys-enter (L .same) t r a (s .pending) (τ .once))
-      tied (committed t n) may = tied-committed t n (seen L s t) may
+      tied (committed t n) may = tied-committed t n (seen L s t) (may .0) (let e = may .1 in omega arith)
       tied (abandoned t n) may =
-          let x = tied-committed t n (s .store) may in
-          record { opens = x .opens; held = x .held; pending = x .pending; begun = x .begun; granted = x .granted; owners = x .owners; ended = x .ended; once = x .once }
+          let x = tied-committed t (s .lastCommit) (s .store) may (omega arith) in
+          record { opens = x .opens; held = x .held; pending = x .pending; begun = x .begun; granted = x .granted; answered = τ .answered; owners = x .owners; ended = x .ended; once = x .once }
 
   -- what a loop over the calls keeps
   pub record Kept (first : Map Row) (h : History Row Pattern) (s : State Row Pattern) : Type 0 where
@@ -206,6 +214,7 @@ module _ {Row Pattern : Type 0} (L : Language Row Pattern) where
       pending = λ t r o c. absurd (o .0);
       begun = λ t b. absurd b;
       granted = λ g x. absurd x;
+      answered = λ n x. absurd x;
       owners = λ c x. absurd (subst (λ l. In c l) (n .pending) x);
       ended = λ t z. z;
       once = subst (λ l. KeysOnce l) (sym (n .pending)) tt;

@@ -80,6 +80,16 @@ module _ {Row Pattern : Type 0} where
   commits (committed t n ∷ h) = t ∷ commits h
   commits (abandoned t n ∷ h) = commits h
 
+  -- the numbers that commits answered
+  abbrev pub commitNumbers : History Row Pattern → List ℕ
+  commitNumbers [] = []
+  commitNumbers (refused c n ∷ h) = commitNumbers h
+  commitNumbers (began planner t ∷ h) = commitNumbers h
+  commitNumbers (reserved t w p n ∷ h) = commitNumbers h
+  commitNumbers (did t d ∷ h) = commitNumbers h
+  commitNumbers (committed t n ∷ h) = n ∷ commitNumbers h
+  commitNumbers (abandoned t n ∷ h) = commitNumbers h
+
   -- the transactions that a commit or an abandon ended
   abbrev pub ends : History Row Pattern → List ℕ
   ends [] = []

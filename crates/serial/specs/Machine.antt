@@ -31,6 +31,7 @@ pub record State (Row Pattern : Type 0) : Type 0 where
   pub pending : List (Pending Row)
   pub lastTransaction : ℕ
   pub lastReservation : ℕ
+  pub lastCommit : ℕ
   pub store : Map Row
 
 -- no transaction has two changes for one row
@@ -48,6 +49,7 @@ effect (Some a) c = becomes a c
 effect None c = c
 
 module _ {Row : Type 0} (same : (r s : Row) → Dec (r ≡ s)) where
+  -- whether the change is t's for the row
   abbrev pub isFor : (t : ℕ) (r : Row) (c : Pending Row) → Dec ((c .owner ≡ t) × (c .row ≡ r))
   isFor t r c = Dec·and (ℕ-discrete (c .owner) t) (same (c .row) r)
 
@@ -75,45 +77,45 @@ module _ {Row Pattern : Type 0} (L : Language Row Pattern) where
   Mine s t g = In g (s .held) × (g .owner ≡ t)
 
   -- t may do this, with this answer
-  abbrev pub Grants : State Row Pattern → ℕ → Deed Row ℕ → Type 0
-  Grants s t (looked r v) = ((g : Grant Pattern) × Mine s t g × L .fits r (g .pattern)) × (v ≡ seen s t r)
-  Grants s t (surveyed n number total) =
+  abbrev pub Does : State Row Pattern → ℕ → Deed Row ℕ → Type 0
+  Does s t (looked r v) = ((g : Grant Pattern) × Mine s t g × L .fits r (g .pattern)) × (v ≡ seen s t r)
+  Does s t (surveyed n number total) =
       (g : Grant Pattern) × Mine s t g × (g .number ≡ n) × Figures (λ r. L .fits r (g .pattern)) (seen s t) number total
-  Grants s t (changed r a) = (g : Grant Pattern) × Mine s t g × Allows (g .right) a × L .fits r (g .pattern)
+  Does s t (changed r a) = (g : Grant Pattern) × Mine s t g × Allows (g .right) a × L .fits r (g .pattern)
 
-  -- the call may have this answer: a transaction's and a reservation's number is the next one
+  -- the call may have this answer: a number that is given is the next one
   abbrev pub May : State Row Pattern → Event Row Pattern → Type 0
   May s (refused c n) = Unit {0}
   May s (began planner t) = t ≡ suc (s .lastTransaction)
   May s (reserved t w p n) =
       In t (s .opens) × (n ≡ suc (s .lastReservation))
       × ((g : Grant Pattern) → In g (s .held) → ¬ Collide L g (record { owner = t; right = w; pattern = p; number = n }))
-  May s (did t d) = In t (s .opens) × Grants s t d
-  May s (committed t n) = In t (s .opens)
+  May s (did t d) = In t (s .opens) × Does s t d
+  May s (committed t n) = In t (s .opens) × (n ≡ suc (s .lastCommit))
   May s (abandoned t n) = In t (s .opens)
 
   -- the state that holds these
-  abbrev pub holding : List ℕ → List (Grant Pattern) → List (Pending Row) → ℕ → ℕ → Map Row → State Row Pattern
-  holding os hs cs t n m = record { opens = os; held = hs; pending = cs; lastTransaction = t; lastReservation = n; store = m }
+  abbrev pub holding : List ℕ → List (Grant Pattern) → List (Pending Row) → ℕ → ℕ → ℕ → Map Row → State Row Pattern
+  holding os hs cs t n k m = record { opens = os; held = hs; pending = cs; lastTransaction = t; lastReservation = n; lastCommit = k; store = m }
 
-  -- all entries of t have left, and the store has this map
-  abbrev pub gone : ℕ → Map Row → State Row Pattern → State Row Pattern
-  gone t m s =
+  -- all entries of t have left, the last commit has this number, and the store this map
+  abbrev pub gone : ℕ → ℕ → Map Row → State Row Pattern → State Row Pattern
+  gone t k m s =
       holding (leave (λ u. u) t (s .opens)) (leave (λ g. g .owner) t (s .held)) (leave (λ c. c .owner) t (s .pending))
-      (s .lastTransaction) (s .lastReservation) m
+      (s .lastTransaction) (s .lastReservation) k m
 
   -- the state after the call with this answer
   abbrev pub next : State Row Pattern → Event Row Pattern → State Row Pattern
   next s (refused c n) = s
-  next s (began planner t) = holding (s .opens ++ (t ∷ [])) (s .held) (s .pending) t (s .lastReservation) (s .store)
+  next s (began planner t) = holding (s .opens ++ (t ∷ [])) (s .held) (s .pending) t (s .lastReservation) (s .lastCommit) (s .store)
   next s (reserved t w p n) =
       let this : Grant Pattern = record { owner = t; right = w; pattern = p; number = n } in
-      holding (s .opens) (s .held ++ (this ∷ [])) (s .pending) (s .lastTransaction) n (s .store)
+      holding (s .opens) (s .held ++ (this ∷ [])) (s .pending) (s .lastTransaction) n (s .lastCommit) (s .store)
   next s (did t (looked r v)) = s
   next s (did t (surveyed n number total)) = s
-  next s (did t (changed r a)) = holding (s .opens) (s .held) (enter (L .same) t r a (s .pending)) (s .lastTransaction) (s .lastReservation) (s .store)
-  next s (committed t n) = gone t (seen s t) s
-  next s (abandoned t n) = gone t (s .store) s
+  next s (did t (changed r a)) = holding (s .opens) (s .held) (enter (L .same) t r a (s .pending)) (s .lastTransaction) (s .lastReservation) (s .lastCommit) (s .store)
+  next s (committed t n) = gone t n (seen s t) s
+  next s (abandoned t n) = gone t (s .lastCommit) (s .store) s
 
   -- the two states hold the same
   pub record Alike (s u : State Row Pattern) : Type 0 where
@@ -122,6 +124,7 @@ module _ {Row Pattern : Type 0} (L : Language Row Pattern) where
     pub pending : s .pending ≡ u .pending
     pub lastTransaction : s .lastTransaction ≡ u .lastTransaction
     pub lastReservation : s .lastReservation ≡ u .lastReservation
+    pub lastCommit : s .lastCommit ≡ u .lastCommit
     pub store : Same (s .store) (u .store)
 
   -- a call with its answer takes the manager from s to s′
