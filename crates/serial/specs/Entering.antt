@@ -15,13 +15,13 @@ abbrev pub absence : Change → Bool
 absence (written k) = false
 absence struck = true
 
--- t's changes to absent (a = true), or to a count
+-- t's changes to absent (absent = true), or its changes to a count
 abbrev pub chosen : {Row : Type 0} → Bool → ℕ → List (Pending Row) → List (Pending Row)
-chosen a t = kept-by (λ c. eqb (c .owner) t && Bool·beq (absence (c .change)) a)
+chosen absent t = kept-by (λ c. eqb (c .owner) t && Bool·beq (absence (c .change)) absent)
 
--- a change of t's to absent for a row that has a count (a = true), or to a count for a row that has none
+-- a change of t's to absent for a row that has a count (absent = true), or to a count for a row that has none
 abbrev pub alters : {Row : Type 0} → Bool → ℕ → Map Row → Pending Row → Bool
-alters a t m c = eqb (c .owner) t && (Bool·beq (absence (c .change)) a && Bool·beq (isSome (m (c .row))) a)
+alters absent t m c = eqb (c .owner) t && (Bool·beq (absence (c .change)) absent && Bool·beq (isSome (m (c .row))) absent)
 
 module _ {Row : Type 0} (same : (r s : Row) → Dec (r ≡ s)) where
   -- the map after these changes have entered it, one after another
