@@ -1,11 +1,11 @@
 -- Every run is serial: by an invariant, one call after another.
 use mathlib.Core.Path.{_≡_, refl, sym, _∙_, ap, subst, fun-ext}
-use mathlib.Core.Logic.{_⊎_, inl, inr, ⊎-elim, ⊎-swap, ite, if-pos, if-neg, by-cases}
-use mathlib.Core.List.{List, [], _∷_, map}
+use mathlib.Core.Logic.{_⊎_, inl, inr, ⊎-elim, ⊎-swap, if-pos, if-neg, by-cases}
+use mathlib.Core.List.{[], _∷_, map}
 use Prim.Native.Nat.{ℕ}
 use native.Mathlib.Decide.{ℕ-discrete}
 use Rattle.std.specs.declared.option.Option.{Option}
-use Rattle.std.specs.declared.option.Option.the-variants.{Some, None}
+use Rattle.std.specs.declared.option.Option.the-variants.{Some}
 use Rattle.maps.specs.Maps.{Map, Same, In}
 use Rattle.maps.proofs.Lists.{in-map, map-same}
 use Rattle.serial.specs.Language.{Language}

@@ -1,13 +1,13 @@
 -- The rolls say of the open transactions what the history says, so each step of the manager is a legal call.
 use mathlib.Core.Path.{_≡_, refl, sym, _∙_, ap, subst, fun-ext}
 use mathlib.Core.Logic.{_⊎_, inl, inr, ⊎-elim, _↔_, ite, if-pos, if-neg, by-cases}
-use mathlib.Core.List.{List, [], _∷_, _++_}
-use Prim.Native.Nat.{ℕ, suc, _≤_}
+use mathlib.Core.List.{List, [], _∷_}
+use Prim.Native.Nat.{ℕ, _≤_}
 use native.Mathlib.Decide.{ℕ-discrete}
 use native.Mathlib.Omega.{arith}
 use Rattle.std.specs.declared.option.Option.{Option}
-use Rattle.std.specs.declared.option.Option.the-variants.{Some, None}
-use Rattle.maps.specs.Maps.{Map, Same, In}
+use Rattle.std.specs.declared.option.Option.the-variants.{Some}
+use Rattle.maps.specs.Maps.{Map, In}
 use Rattle.maps.proofs.Lists.{in-push, push-old, push-new}
 use Rattle.maps.proofs.Figures.{figures-same}
 use Rattle.serial.specs.Language.{Language}

@@ -1,6 +1,5 @@
 -- A history is the list of calls with their answers, the latest first.
 -- What it alone says: who is open, with which reservations, who committed, and what each transaction did.
-use mathlib.Core.Path.{_≡_}
 use mathlib.Core.Logic.{ite}
 use mathlib.Core.List.{List, [], _∷_}
 use Prim.Native.Nat.{ℕ}

@@ -1,6 +1,6 @@
 -- What each granted call promises, of the history before it and of the maps before and after it; and every run of such calls.
 use mathlib.Core.Path.{_≡_}
-use mathlib.Core.List.{List, [], _∷_}
+use mathlib.Core.List.{[], _∷_}
 use Prim.Native.Nat.{ℕ}
 use Rattle.maps.specs.Maps.{Map, Same, In, Figures}
 use Rattle.serial.specs.Language.{Language}

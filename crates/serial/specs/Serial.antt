@@ -1,6 +1,6 @@
 -- The serial order: what holds after any list of calls, of the map under the new manager, the history, and the map as it stands.
 use mathlib.Core.Path.{_≡_}
-use mathlib.Core.List.{List, map}
+use mathlib.Core.List.{map}
 use Prim.Native.Nat.{ℕ}
 use Rattle.maps.specs.Maps.{Map, Once}
 use Rattle.serial.specs.Language.{Language}
