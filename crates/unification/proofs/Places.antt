@@ -126,19 +126,19 @@ module _ (sig : List ℕ) (cells sheet : List Cell) (x p : ℕ) (long : length s
 -- one term
 module _ (sig : List ℕ) (cells : List Cell) where
   -- a free variable on one side is bound to the other side
-  pub bound-left : (sheet : List Cell) (p q : ℕ) → Good sig cells → length sheet ≡ 16 → Straight cells sheet → Rooted cells sheet p → q < length cells
+  pub bound-left : (sheet : List Cell) (p q : ℕ) (d : Cell) → d ≡ entry-to q → Good sig cells → length sheet ≡ 16 → Straight cells sheet → Rooted cells sheet p → q < length cells
       → at cells p .letter ≡ 86 → (at cells q .letter ≡ 86 → at cells q .number < at cells p .number)
-      → Merged sig cells sheet (set sheet (at cells p .number) (entry-to q)) p q 1
-  bound-left sheet p q g long s r w v h =
+      → Merged sig cells sheet (set sheet (at cells p .number) d) p q 1
+  bound-left sheet p q d is g long s r w v h =
     let x : ℕ = at cells p .number in
     let l : x < 16 = g .vars p (r .0) v in
-    record {
+    subst (λ (d : Cell). Merged sig cells sheet (set sheet (at cells p .number) d) p q 1) (sym is) (record {
       straight = straight-set sig cells sheet x q long l (r .1 v) w s h;
       sound = λ σ a t.
         (sol-unset sig cells sheet x q long l (r .1 v) w σ t .0,
          part-var sig cells p σ (g .whole p (r .0)) v ∙ sol-unset sig cells sheet x q long l (r .1 v) w σ t .1);
       full = λ σ a t e. sol-set sig cells sheet x q long l (r .1 v) w σ t (sym (part-var sig cells p σ (g .whole p (r .0)) v) ∙ e);
-    }
+    })
 
   pub turned : (before behind : List Cell) (p q n : ℕ) → Merged sig cells before behind p q n → Merged sig cells before behind q p n
   turned before behind p q n m = record {
