@@ -1,1 +1,3 @@
 pub mod Heads
+pub mod Bindings
+pub mod Leaves

@@ -1,4 +1,7 @@
 // Whether two patterns overlap: their most general unifier, and a sample of the rows that fit both.
+pub mod binding;
+mod lay;
+mod order;
 mod sheet;
-mod walk;
 mod unify;
+mod walk;
