@@ -1,3 +1,5 @@
 pub mod Heads
 pub mod Bindings
 pub mod Leaves
+pub mod Roots
+pub mod Settling

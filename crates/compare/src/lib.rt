@@ -1,7 +1,9 @@
 // Whether two patterns overlap: their most general unifier, and a sample of the rows that fit both.
 pub mod binding;
+mod classes;
 mod lay;
 mod order;
 mod sheet;
 mod unify;
 mod walk;
+mod write;
