@@ -2,9 +2,9 @@
 use mathlib.Core.Path.{_≡_, refl, sym, _∙_, ap, subst}
 use mathlib.Core.List.{List, [], _∷_}
 use mathlib.Core.Bool.{Bool, true, false}
-use Prim.Native.Nat.{ℕ, zero, suc, _+_, _<_, _≤_}
+use Prim.Native.Nat.{ℕ, zero, suc, _+_, _-_, _<_, _≤_}
 use lib.Dec.{ltb}
-use lib.ListN.{length, drop, replicate}
+use lib.ListN.{length, take, drop, replicate}
 use native.Mathlib.Omega.{arith}
 use Rattle.std.specs.Options.{Cases, isSome}
 use Rattle.std.specs.declared.option.Option.{Option}
@@ -15,6 +15,10 @@ use Rattle.unification.specs.Fronts.{part}
 use Rattle.unification.specs.Unifiers.{Replacement}
 use Rattle.compare.specs.declared.binding.Binding.{Binding}
 use Rattle.compare.specs.Bindings.{joint, place-of, replacements}
+
+-- a part from the start
+pub from-start : {A : Type 0} (xs : List A) (n : ℕ) → take (n - 0) xs ≡ take n xs
+from-start xs n = let z : n - 0 ≡ n = omega arith in ap (λ (k : ℕ). take k xs) z
 
 -- a variable is bound exactly where its entry is a place among the cells
 pub bound-tells : (o : Option ℕ) (e n : ℕ) → Cases o (n ≤ e) (λ p. (p ≡ e) × (p < n)) → isSome o ≡ ltb e n

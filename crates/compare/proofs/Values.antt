@@ -117,7 +117,7 @@ module _ (M : Meaning) (cells : List Cell) (roots : List Root) (ks : List Constr
           ])
 
   -- the letter of a value that meets a condition is no symbol's
-  met-value : Sound M → (q : Condition) (l c : ℕ) → Met M q l c → Value M l c
+  pub met-value : Sound M → (q : Condition) (l c : ℕ) → Met M q l c → Value M l c
   met-value s q l c m = s .values q l c (m .0) (m .1)
 
   met-letter : Sound M → (q : Condition) (l c : ℕ) → Met M q l c → l ≡ 83 → ⊥

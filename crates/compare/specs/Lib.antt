@@ -3,3 +3,5 @@ pub mod Bindings
 pub mod Leaves
 pub mod Roots
 pub mod Settling
+pub mod Joints
+pub mod Answers

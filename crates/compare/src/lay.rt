@@ -21,7 +21,7 @@ pub trait Shift {
         ensures { λ r. ⌜ r ≡ shifted self ⌝ };
 }
 
-impl Shift for Cell as CellShift {
+pub impl Shift for Cell as CellShift {
     ghost shifted = { shifted-cell };
 
     ghost small = { λ c. (c .letter ≡ 86 → c .number < 8) };
@@ -38,7 +38,7 @@ impl Shift for Cell as CellShift {
     }
 }
 
-impl Shift for Constraint as ConstraintShift {
+pub impl Shift for Constraint as ConstraintShift {
     ghost shifted = { shifted-constraint };
 
     ghost small = { λ k. k .variable < 8 };

@@ -35,6 +35,13 @@ fine-other M v w c f h =
     subst (λ (t : Bool). When (eqb (c .letter) 83) (c .number < 32) (When t (c .number < w) (Value M (c .letter) (c .number)))) (sym b)
     (subst (λ (t : Bool). When (eqb (c .letter) 83) (c .number < 32) (When t (c .number < v) (Value M (c .letter) (c .number)))) b f)
 
+pub fine-as-var : (M : Meaning) (w : ℕ) (c : Cell) → c .letter ≡ 86 → c .number < w → Fine M w c
+fine-as-var M w c e l =
+    let a : eqb (c .letter) 83 ≡ false = ne-eqb (c .letter) 83 (omega arith) in
+    let b : eqb (c .letter) 86 ≡ true = eq-eqb (c .letter) 86 e in
+    subst (λ (t : Bool). When t (c .number < 32) (When (eqb (c .letter) 86) (c .number < w) (Value M (c .letter) (c .number)))) (sym a)
+    (subst (λ (t : Bool). When t (c .number < w) (Value M (c .letter) (c .number))) (sym b) l)
+
 pub fine-below : (M : Meaning) (n : ℕ) (cs : List Cell) → All (Fine M n) cs → Below n cs
 fine-below M n cs h k l v = fine-var M n (at cs k) (all-getD (Fine M n) cs k (record { letter = 0; number = 0 }) l h) v
 

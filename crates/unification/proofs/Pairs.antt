@@ -7,18 +7,21 @@ use Prim.Native.Nat.{ℕ, zero, suc, _+_, _-_, _*_, _<_, _≤_}
 use native.Mathlib.Omega.{arith}
 use lib.ListN.{length, getD, drop, set, length-append, replicate}
 use lib.Dec.{eqb}
+use Rattle.std.specs.shelf.Lists.{All}
+use Rattle.std.proofs.shelf.Elements.{all-append, all-weaker, all-map}
 use Rattle.std.proofs.shelf.Lists.{getD-replicate, getD-append-left, getD-append-right, getD-map, length-map, drop-at}
 use Rattle.std.proofs.shelf.Tests.{false≢true, true≢false, cases-lt, eq-eqb, ne-eqb}
 use Rattle.kinds.specs.Meaning.{Meaning}
 use Rattle.terms.specs.declared.cell.Cell.{Cell}
-use Rattle.terms.specs.Terms.{arity, Are, Subst, apply}
-use Rattle.terms.specs.Proper.{Pattern-cells}
+use Rattle.terms.specs.declared.constraint.Constraint.{Constraint}
+use Rattle.terms.specs.Terms.{arity, Are, Fine, Subst, apply}
+use Rattle.terms.specs.Proper.{Pattern-cells, Constrains}
 use Rattle.unification.specs.Fronts.{terms, at, part}
 use Rattle.unification.specs.Unifiers.{Unifies, MostGeneral, Replacement, sequence}
 use Rattle.unification.specs.Sheets.{Good, place-in, entry, blank, Blank, Sol, Straight, Level, Merged, Clash}
 use Rattle.unification.specs.Orders.{Unsolved, Ordered}
-use Rattle.unification.specs.Pairs.{shifted, pair, Below, NoUnifier}
-use Rattle.unification.proofs.Cells.{fine-below}
+use Rattle.unification.specs.Pairs.{shifted, shifted-constraint, pair, both-constraints, Below, NoUnifier}
+use Rattle.unification.proofs.Cells.{fine-below, fine-var, fine-other, fine-as-var}
 use Rattle.unification.proofs.Theory.{var-or, arity-var, are-more, begins-at, terms-front, most-general}
 
 -- a pattern's cells, as far as unification is concerned
@@ -82,6 +85,26 @@ pair-good sig left right a b = record {
         ];
       whole = λ k l. begins-at sig 2 k (pair left right) (pair-are sig left right (a .term) (b .term)) l;
     }
+
+-- the cells of the pair are those of a term with sixteen variables
+pub pair-fine : (M : Meaning) (left right : List Cell) → All (Fine M 8) left → All (Fine M 8) right → All (Fine M 16) (pair left right)
+pair-fine M left right a b =
+    all-append (Fine M 16) left (map shifted right)
+    (all-weaker (Fine M 8) (Fine M 16) (λ c f. elim (var-or c) [
+        inl v ↦ fine-as-var M 16 c v (let l = fine-var M 8 c f v in omega arith)
+      | inr v ↦ fine-other M 8 16 c f v
+      ]) left a)
+    (all-map (Fine M 16) shifted right (all-weaker (Fine M 8) (λ c. Fine M 16 (shifted c)) (λ c f. elim (var-or c) [
+        inl v ↦ subst (Fine M 16) (sym (shifted-var c v)) (fine-as-var M 16 (record { letter = c .letter; number = c .number + 8 }) v (let l = fine-var M 8 c f v in omega arith))
+      | inr v ↦ subst (Fine M 16) (sym (shifted-fix c v)) (fine-other M 8 16 c f v)
+      ]) right b))
+
+-- and the constraints are on sixteen variables
+pub pair-named : (M : Meaning) (left right : List Constraint) → All (Constrains M) left → All (Constrains M) right → All (λ k. k .variable < 16) (both-constraints left right)
+pair-named M left right a b =
+    all-append (λ k. k .variable < 16) left (map shifted-constraint right)
+    (all-weaker (Constrains M) (λ k. k .variable < 16) (λ k h. (let l = h .0 in omega arith)) left a)
+    (all-map (λ k. k .variable < 16) shifted-constraint right (all-weaker (Constrains M) (λ k. k .variable + 8 < 16) (λ k h. (let l = h .0 in omega arith)) right b))
 
 pub part-left : (sig : List ℕ) (left right : List Cell) → Are sig 1 left → part sig (pair left right) 0 1 ≡ left
 part-left sig left right h = terms-front sig 1 left (map shifted right) h

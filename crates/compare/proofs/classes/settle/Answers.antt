@@ -5,16 +5,13 @@ use native.Mathlib.Omega.{arith}
 use lib.ListN.{length, take}
 use Rattle.std.specs.Options.{Cases}
 use Rattle.std.specs.declared.option.Option.{Option}
-use Rattle.kinds.specs.declared.condition.Condition.{Condition}
 use Rattle.terms.specs.declared.cell.Cell.{Cell}
 use Rattle.compare.specs.Roots.{root-at, constraint-at, class-conditions}
 use Rattle.compare.specs.Settling.{Within-cells, Unmet, Settled}
+use Rattle.compare.proofs.Readings.{from-start}
 use Rattle.compare.proofs.Values.{fails-class, settled-class, settled-term}
 use Rattle.compare.proofs.classes.settle.Needs as need
 use Rattle.compare.proofs.classes.settle.Needs.{in-Variable·in-Continue-value, in-Term·else-not-meets}
-
-from-start : (qs : List Condition) (n : ℕ) → take (n - 0) qs ≡ take n qs
-from-start qs n = let z : n - 0 ≡ n = omega arith in ap (λ (k : ℕ). take k qs) z
 
 pub returns-in-Break-value : need.returns-in-Break-value
 returns-in-Break-value g c =
