@@ -3,3 +3,4 @@ mod Gathers
 mod Values
 mod Drawing
 mod Findings
+mod Alone

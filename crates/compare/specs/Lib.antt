@@ -5,3 +5,4 @@ pub mod Roots
 pub mod Settling
 pub mod Joints
 pub mod Answers
+pub mod Outside

@@ -4,6 +4,7 @@ mod classes;
 mod join;
 mod lay;
 mod order;
+pub mod outside;
 pub mod overlap;
 pub mod sample;
 mod sheet;

@@ -44,12 +44,12 @@ pub fn wipe(sheet: &mut [Cell])
 
 // A loan of the caller's sheet, which is wiped where the loan ends, whatever way it ends.
 pub struct Guard<'a> {
-    pub sheet: &'a mut [Cell],
+    pub sheet: &'a mut [Cell; 16],
 }
 
 impl Drop for Guard<'_> {
     fn drop(self)
-        ensures { λ _. ⌜ now (self .exit .0) ≡ replicate (length (now (self .exit .0))) blank ⌝ }
+        ensures { λ _. ⌜ Blank (now (self .exit .0)) ⌝ }
     {
         let Guard { sheet } = self;
         wipe(sheet);
