@@ -4,3 +4,4 @@ mod Values
 mod Drawing
 mod Findings
 mod Alone
+mod Cases

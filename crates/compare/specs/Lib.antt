@@ -6,3 +6,4 @@ pub mod Settling
 pub mod Joints
 pub mod Answers
 pub mod Outside
+pub mod Worked

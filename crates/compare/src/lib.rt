@@ -10,4 +10,5 @@ pub mod sample;
 mod sheet;
 mod unify;
 mod walk;
+pub mod worked;
 mod write;
