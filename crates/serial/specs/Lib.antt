@@ -1,0 +1,10 @@
+pub mod Language
+pub mod Rights
+pub mod History
+pub mod Alone
+pub mod Serial
+pub mod Legal
+pub mod Samples
+pub mod Machine
+pub mod Entering
+pub mod Surveys
