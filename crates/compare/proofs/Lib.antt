@@ -1,0 +1,7 @@
+mod Readings
+mod Gathers
+mod Values
+mod Drawing
+mod Findings
+mod Alone
+mod Cases

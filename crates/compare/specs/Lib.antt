@@ -1,0 +1,9 @@
+pub mod Heads
+pub mod Bindings
+pub mod Leaves
+pub mod Roots
+pub mod Settling
+pub mod Joints
+pub mod Answers
+pub mod Outside
+pub mod Worked
