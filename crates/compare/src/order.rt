@@ -83,12 +83,7 @@ pub struct Leaf {
 }
 
 // A waiting variable that is a leaf.
-fn choose(
-    signature: &Signature,
-    cells: &[Cell],
-    sheet: &[Cell],
-    wait: [bool; 16],
-) -> Option<Leaf>
+fn choose(signature: &Signature, cells: &[Cell], sheet: &[Cell], wait: [bool; 16]) -> Option<Leaf>
     requires good { ⌜ Good (now signature .arities) (now cells) ⌝ }
     requires long { ⌜ length (now sheet) ≡ 16 ⌝ }
     requires bound { ⌜ Within (now cells) (now sheet) wait ⌝ }

@@ -1,10 +1,9 @@
 use mathlib.Core.Path.{_≡_, refl, sym, _∙_, ap, subst}
-use mathlib.Core.List.{List, [], _∷_}
-use mathlib.Core.Bool.{Bool, true, false, cond}
-use Prim.Native.Nat.{ℕ, _+_, _-_, _<_, _≤_}
+use mathlib.Core.List.{_∷_}
+use mathlib.Core.Bool.{false}
+use Prim.Native.Nat.{ℕ, _+_, _-_}
 use native.Mathlib.Omega.{arith}
-use lib.ListN.{length, drop, getD, set, length-set}
-use Rattle.std.specs.declared.option.Option.{Option}
+use lib.ListN.{length, drop, set, length-set}
 use Rattle.std.specs.declared.option.Option.the-variants.{Some}
 use Rattle.std.proofs.shelf.Lists.{drop-set}
 use Rattle.unification.specs.Fronts.{part}
@@ -18,10 +17,14 @@ use Rattle.compare.proofs.order.order.Needs as need
 pub loop-to-place-holds : need.loop-to-place-holds
 loop-to-place-holds c =
     let w = c .bound-of-wait .result in
-    let l : length w ≡ 16 = omega arith in
-    (l, refl, c .count-to-place .ensures, omega (arith, c .count-to-place .ensures, opens-length w),
-     subst (Placed (c .args .signature .now .arities) (c .args .cells .now) (c .args .sheet .now) w) (sym (replacements-none (c .args .signature .now .arities) (c .args .cells .now) (c .args .left) 16 (c .count-to-place .result)))
-       (placed-none (c .args .signature .now .arities) (c .args .cells .now) (c .args .sheet .now) w l (c .bound-of-wait .ensures)))
+    let l : length w ≡ 16 = omega arith in (
+      l,
+      refl,
+      c .count-to-place .ensures,
+      omega (arith, c .count-to-place .ensures, opens-length w),
+      subst (Placed (c .args .signature .now .arities) (c .args .cells .now) (c .args .sheet .now) w) (sym (replacements-none (c .args .signature .now .arities) (c .args .cells .now) (c .args .left) 16 (c .count-to-place .result)))
+          (placed-none (c .args .signature .now .arities) (c .args .cells .now) (c .args .sheet .now) w l (c .bound-of-wait .ensures)),
+    )
 
 pub returns-in-rest : need.returns-in-rest
 returns-in-rest c =
@@ -40,16 +43,17 @@ loop-to-place-again c =
     let k : left - 1 + 1 ≡ left = omega arith in
     let b : Binding = record { variable = c .joint .result; term = c .joint-in-loop-to-place .result } in
     let e : replacements sig cells n (drop (left - 1) (set out (left - 1) (Some b)))
-        ≡ record { name = x; term = part sig cells (entry (c .args .sheet .now) x) 1 } ∷ replacements sig cells n (drop left out) =
-      ap (replacements sig cells n) (drop-set out (left - 1) (Some b) (omega arith))
-      ∙ replacements-more sig cells n x (entry (c .args .sheet .now) x) b (drop (left - 1 + 1) out) (c .joint .ensures) (c .joint-in-loop-to-place .ensures ∙ h .place)
-      ∙ ap (λ (m : ℕ). replace x (part sig cells (entry (c .args .sheet .now) x) 1) ∷ replacements sig cells n (drop m out)) k in
-    (length-set w x false ∙ c .loop-to-place .inv .0,
-     length-set out (left - 1) (Some b) ∙ c .loop-to-place .inv .1,
-     omega (arith, opens-set w x (h .chosen .is-open)),
-     omega arith,
-     subst (Placed sig cells (c .args .sheet .now) (set w x false)) (sym e)
-       (placed-more sig cells (c .args .sheet .now) w (replacements sig cells n (drop left out)) x (c .pre .good) (c .loop-to-place .inv .0) (c .loop-to-place .inv .4) (h .chosen)))
+    ≡ record { name = x; term = part sig cells (entry (c .args .sheet .now) x) 1 } ∷ replacements sig cells n (drop left out) =
+    ap (replacements sig cells n) (drop-set out (left - 1) (Some b) (omega arith))
+    ∙ replacements-more sig cells n x (entry (c .args .sheet .now) x) b (drop (left - 1 + 1) out) (c .joint .ensures) (c .joint-in-loop-to-place .ensures ∙ h .place)
+    ∙ ap (λ (m : ℕ). replace x (part sig cells (entry (c .args .sheet .now) x) 1) ∷ replacements sig cells n (drop m out)) k in (
+      length-set w x false ∙ c .loop-to-place .inv .0,
+      length-set out (left - 1) (Some b) ∙ c .loop-to-place .inv .1,
+      omega (arith, opens-set w x (h .chosen .is-open)),
+      omega arith,
+      subst (Placed sig cells (c .args .sheet .now) (set w x false)) (sym e)
+          (placed-more sig cells (c .args .sheet .now) w (replacements sig cells n (drop left out)) x (c .pre .good) (c .loop-to-place .inv .0) (c .loop-to-place .inv .4) (h .chosen)),
+    )
 
 pub returns : need.returns
 returns c =
