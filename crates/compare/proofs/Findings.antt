@@ -1,8 +1,8 @@
 -- What the comparison of two patterns on a sheet says of the rows that fit them.
-use mathlib.Core.Path.{_≡_, sym, _∙_, ap, subst}
+use mathlib.Core.Path.{_≡_, sym, _∙_, ap, subst, subst₂}
 use mathlib.Core.List.{List, map}
 use mathlib.Core.Bool.{false}
-use Prim.Native.Nat.{ℕ, _<_, _≤_}
+use Prim.Native.Nat.{ℕ, _-_, _<_, _≤_}
 use native.Mathlib.Omega.{arith}
 use lib.ListN.{length, drop, replicate}
 use Rattle.std.specs.Options.{Cases}
@@ -29,7 +29,7 @@ use Rattle.unification.proofs.Pairs.{Usable, usable, good, inside-left, inside-
 use Rattle.unification.proofs.Fitting.{shared, fits-left, fits-right}
 use Rattle.compare.specs.declared.sample.Common.{Common}
 use Rattle.compare.specs.declared.sample.Sample.{Sample}
-use Rattle.compare.specs.Bindings.{replacements, unifier}
+use Rattle.compare.specs.Bindings.{Within-patterns, replacements, unifier}
 use Rattle.compare.specs.Roots.{constraint-at}
 use Rattle.compare.specs.Answers.{Shows, Sampled, Common-part, Unsampled, Drawn}
 
@@ -65,6 +65,12 @@ module _ (sig : List ℕ) (M : Meaning) (left right : Description) (a : Proper-p
 
   pub straight-blank : (sheet : List Cell) → Blank sheet → Straight cells sheet
   straight-blank = blank-straight sig (left .cells) (right .cells) cells use-left use-right is
+
+  -- what is left of the cells is the right pattern's
+  right-cells : length cells - n ≡ length (right .cells)
+  right-cells =
+      let e = ap length is ∙ length-append (left .cells) (map shifted (right .cells)) in
+      omega (arith, e, length-map (right .cells) shifted, at-n)
 
   choice-for : Overlap sig M left right → (σ : Subst) × Shared sig M left right σ
   choice-for o = let s = shared sig M left right (use-left .small) (a .constraints .each) (o .0) (o .1) (o .2) in (s .0, s .1)
@@ -120,7 +126,7 @@ module _ (sig : List ℕ) (M : Meaning) (left right : Description) (a : Proper-p
           (σ, s .1, sym (s .2) ∙ sym (apply-comp σ μ (left .cells) ∙ apply-ext (λ x. apply σ (μ x)) σ (m .general σ (λ x. s .1 .ground x .0) (s .1 .unifies)) (left .cells)))
 
       pub told : (o : Option Common)
-          → Cases o (Unsampled sig M cells behind ks) (λ c. Ordered sig cells behind (replacements sig cells n (c .bindings)) × Drawn sig M cells behind ks (sequence (replacements sig cells n (c .bindings))) (c .sample))
+          → Cases o (Unsampled sig M cells behind ks) (λ c. Ordered sig cells behind (replacements sig cells n (c .bindings)) × All (Within-patterns n (length cells - n)) (c .bindings) × Drawn sig M cells behind ks (sequence (replacements sig cells n (c .bindings))) (c .sample))
           → Cases o (Overlap sig M left right → ⊥) (λ c. Common-part sig M left right c)
       told None h = λ o.
           let s = choice-for o in
@@ -134,7 +140,8 @@ module _ (sig : List ℕ) (M : Meaning) (left right : Description) (a : Proper-p
           let general-named : MostGeneral sig (unifier sig left right (c .bindings)) (left .cells) (map shifted (right .cells)) =
           subst (λ (μ : Subst). MostGeneral sig μ (left .cells) (map shifted (right .cells))) u general in
           record {
+            within = subst₂ (λ (k m : ℕ). All (Within-patterns k m) (c .bindings)) at-n right-cells (h .1);
             general = general-named;
             every = every (unifier sig left right (c .bindings)) general-named;
-            sampled = sampled (unifier sig left right (c .bindings)) (c .sample) (subst (λ (μ : Subst). Drawn sig M cells behind ks μ (c .sample)) u (h .1));
+            sampled = sampled (unifier sig left right (c .bindings)) (c .sample) (subst (λ (μ : Subst). Drawn sig M cells behind ks μ (c .sample)) u (h .2));
           }

@@ -26,10 +26,11 @@ write-len-requires g c κs = record {
 
 pub returns : need.returns
 returns g c = (
-  c .in-Continue-bindings .ensures tt,
+  c .in-Continue-bindings .ensures tt .0,
+  c .in-Continue-bindings .ensures tt .1,
   drawn (g .K·Kind .means (c .args .kind .now)) (c .args .cells .now) (c .roots-of-roots .result) (c .args .constraints .now) (g .K·Kind·met .sound (c .args .kind .now))
       (c .args .signature .now .arities) (c .args .sheet .now) (c .pre .good) (c .pre .named) (c .roots-of-roots .ensures) (c .in-Continue-fills .fills) (c .in-Continue-fills .ensures tt)
-      (replacements (c .args .signature .now .arities) (c .args .cells .now) (c .args .left) (c .in-Continue-bindings .bindings)) (c .in-Continue-bindings .ensures tt)
+      (replacements (c .args .signature .now .arities) (c .args .cells .now) (c .args .left) (c .in-Continue-bindings .bindings)) (c .in-Continue-bindings .ensures tt .0)
       (c .args .signature .now .nought) (c .pre .fine) _
       (λ σ a s f. shows (apply σ (part (c .args .signature .now .arities) (c .args .cells .now) 0 1)) (c .write-len .last .row) (c .write-len .result) (c .write-len .ensures .cells σ a s f)),
 )
