@@ -1,16 +1,14 @@
 -- A row as a pattern without variables.
-use mathlib.Core.Path.{_≡_, refl, sym, _∙_, ap, subst}
-use mathlib.Core.Logic.{_⊎_, inl, inr}
+use mathlib.Core.Path.{_≡_, refl, subst}
+use mathlib.Core.Logic.{inl, inr}
 use mathlib.Core.List.{List, []}
-use mathlib.Core.Bool.{Bool, true, false}
-use Prim.Native.Nat.{ℕ, _<_, _≤_}
+use Prim.Native.Nat.{ℕ}
 use native.Mathlib.Omega.{arith}
-use lib.ListN.{length, getD}
+use lib.ListN.{getD}
 use Rattle.std.specs.Options.{Cases, isSome}
 use Rattle.std.specs.Orderings.{Decides}
 use Rattle.std.specs.declared.option.Option.{Option}
 use Rattle.std.specs.declared.option.Option.the-variants.{Some, None}
-use Rattle.std.specs.shelf.Lists.{All}
 use Rattle.std.proofs.shelf.Elements.{all-weaker}
 use Rattle.std.proofs.shelf.Tests.{false≢true}
 use Rattle.kinds.specs.Meaning.{Meaning}
@@ -30,19 +28,19 @@ alone row = record { cells = row; constraints = [] }
 
 pub alone-proper : (sig : List ℕ) (M : Meaning) (row : List Cell) → Row-cells sig M row → Proper-pattern sig M (alone row)
 alone-proper sig M row h = record {
-    cells = record {
-      term = record {
-        whole = h .term .whole;
-        starts = h .term .starts;
-        fine = all-weaker (Fine M 0) (Fine M 8) (λ c f. elim (var-or c) [
-            inl v ↦ absurd (let l = fine-var M 0 c f v in omega arith)
-          | inr v ↦ fine-other M 0 8 c f v
-          ]) row (h .term .fine);
-      };
-      few = let l = h .few in omega arith;
+  cells = record {
+    term = record {
+      whole = h .term .whole;
+      starts = h .term .starts;
+      fine = all-weaker (Fine M 0) (Fine M 8) (λ c f. elim (var-or c) [
+        | inl v ↦ absurd (let l = fine-var M 0 c f v in omega arith)
+        | inr v ↦ fine-other M 0 8 c f v
+      ]) row (h .term .fine);
     };
-    constraints = record { few = omega arith; each = tt };
-  }
+    few = let l = h .few in omega arith;
+  };
+  constraints = record { few = omega arith; each = tt };
+}
 
 -- a row fits a pattern exactly where the two overlap
 pub fits-told : (sig : List ℕ) (M : Meaning) (row : List Cell) (p : Description) → getD sig 0 0 ≡ 0 → Row-cells sig M row → (o : Option Common)

@@ -2,7 +2,7 @@
 use mathlib.Core.Path.{_≡_, refl, sym, _∙_, ap, subst}
 use mathlib.Core.Logic.{_⊎_, inl, inr}
 use mathlib.Core.List.{List, [], _∷_, _++_, append-nil}
-use Prim.Native.Nat.{ℕ, suc, _+_, _<_, _≤_}
+use Prim.Native.Nat.{ℕ, suc, _≤_}
 use native.Mathlib.Omega.{arith}
 use lib.ListN.{length}
 use Rattle.kinds.specs.declared.condition.Condition.{Condition}
@@ -34,13 +34,14 @@ inside-itself o =
     let f : ρ 0 ++ (ρ 0 ++ []) ≡ τ 0 ++ (S 3 ∷ (τ 0 ++ [])) = cc in
     let u = unique arities 1 (ρ 0) (τ 0) (ρ 0 ++ []) (S 3 ∷ (τ 0 ++ [])) (o .1 .ground 0 .0) (o .2 .ground 0 .0) f in
     let g : length (τ 0) ≡ suc (length (τ 0)) =
-      ap length (sym (u .0) ∙ sym (append-nil (ρ 0)) ∙ u .1) ∙ ap (λ cs. suc (length cs)) (append-nil (τ 0)) in
+    ap length (sym (u .0) ∙ sym (append-nil (ρ 0)) ∙ u .1) ∙ ap (λ cs. suc (length cs)) (append-nil (τ 0)) in
     omega arith
 
 all-free : Together (S 2 ∷ S 0 ∷ S 0 ∷ []) (bare (S 2 ∷ V 0 ∷ V 1 ∷ [])) (bare (S 2 ∷ V 0 ∷ V 0 ∷ []))
-all-free =
-    (record { choice = λ _. S 0 ∷ []; ground = λ _. (refl, (omega arith, tt)); makes = refl; meets = tt },
-     record { choice = λ _. S 0 ∷ []; ground = λ _. (refl, (omega arith, tt)); makes = refl; meets = tt })
+all-free = (
+  record { choice = λ _. S 0 ∷ []; ground = λ _. (refl, (omega arith, tt)); makes = refl; meets = tt },
+  record { choice = λ _. S 0 ∷ []; ground = λ _. (refl, (omega arith, tt)); makes = refl; meets = tt },
+)
 
 two-letters : Apart (bare (S 3 ∷ N 7 ∷ [])) (bare (S 3 ∷ H 7 ∷ []))
 two-letters o =
@@ -62,7 +63,7 @@ one-cell c d e = cc
 also : (t : List Cell) (q : Condition) (l c : ℕ) → t ≡ record { letter = l; number = c } ∷ [] → Satisfies bank q t → Met bank q l c
 also t q l c e b =
     let d : _≡_ {A = Cell} (record { letter = b .0; number = b .1 }) (record { letter = l; number = c }) =
-      one-cell (record { letter = b .0; number = b .1 }) (record { letter = l; number = c }) (sym (b .2) ∙ e) in
+    one-cell (record { letter = b .0; number = b .1 }) (record { letter = l; number = c }) (sym (b .2) ∙ e) in
     subst (λ (x : Cell). Met bank q (x .letter) (x .number)) d (b .3)
 
 number-between : (a b c : ℕ) → (_≡_ {A = ℕ} 66 66 × (a ≤ c) × (c ≤ b)) ⊎ (_≡_ {A = ℕ} 66 88 × (c ≡ a → ⊥)) → (a ≤ c) × (c ≤ b)
@@ -72,13 +73,20 @@ number-other : (a c : ℕ) → (_≡_ {A = ℕ} 88 66 × (a ≤ c) × (c ≤ 0))
 number-other a c h = elim h [ inl p ↦ absurd (let z = p .0 in omega arith) | inr p ↦ p .1 ]
 
 smallest-of-both : Together (S 3 ∷ N 1 ∷ []) (under (between 1 5 ∷ [])) (under (other-than 3 ∷ []))
-smallest-of-both =
-    (record {
-       choice = λ _. N 1 ∷ []; ground = λ _. (refl, (omega arith, tt)); makes = refl;
-       meets = ((78, 1, refl, (refl, (refl, omega arith, inl (refl, omega arith, omega arith)))), tt) },
-     record {
-       choice = λ _. N 1 ∷ []; ground = λ _. (refl, (omega arith, tt)); makes = refl;
-       meets = ((78, 1, refl, (refl, (refl, omega arith, inr (refl, (λ e. omega arith))))), tt) })
+smallest-of-both = (
+  record {
+    choice = λ _. N 1 ∷ [];
+    ground = λ _. (refl, (omega arith, tt));
+    makes = refl;
+    meets = ((78, 1, refl, (refl, (refl, omega arith, inl (refl, omega arith, omega arith)))), tt);
+  },
+  record {
+    choice = λ _. N 1 ∷ [];
+    ground = λ _. (refl, (omega arith, tt));
+    makes = refl;
+    meets = ((78, 1, refl, (refl, (refl, omega arith, inr (refl, (λ e. omega arith))))), tt);
+  },
+)
 
 none-of-both : Apart (under (between 3 3 ∷ [])) (under (other-than 3 ∷ []))
 none-of-both o =
@@ -110,11 +118,15 @@ number-or-class o =
     omega arith
 
 in-the-week : Together (S 3 ∷ H 31 ∷ []) (under (hours-of 31 128 ∷ [])) (bare (S 3 ∷ H 31 ∷ []))
-in-the-week =
-    (record {
-       choice = λ _. H 31 ∷ []; ground = λ _. (refl, (omega arith, tt)); makes = refl;
-       meets = ((72, 31, refl, (refl, (refl, omega arith, refl, refl))), tt) },
-     record { choice = λ _. S 0 ∷ []; ground = λ _. (refl, (omega arith, tt)); makes = refl; meets = tt })
+in-the-week = (
+  record {
+    choice = λ _. H 31 ∷ [];
+    ground = λ _. (refl, (omega arith, tt));
+    makes = refl;
+    meets = ((72, 31, refl, (refl, (refl, omega arith, refl, refl))), tt);
+  },
+  record { choice = λ _. S 0 ∷ []; ground = λ _. (refl, (omega arith, tt)); makes = refl; meets = tt },
+)
 
 at-the-weekend : Apart (under (hours-of 31 128 ∷ [])) (bare (S 3 ∷ H 127 ∷ []))
 at-the-weekend o =
@@ -123,21 +135,21 @@ at-the-weekend o =
     let t : f ++ [] ≡ H 127 ∷ [] = cc in
     let m = o .1 .meets .0 in
     let d : _≡_ {A = Cell} (record { letter = m .0; number = m .1 }) (H 127) =
-      one-cell (record { letter = m .0; number = m .1 }) (H 127) (sym (m .2) ∙ sym (append-nil f) ∙ t) in
+    one-cell (record { letter = m .0; number = m .1 }) (H 127) (sym (m .2) ∙ sym (append-nil f) ∙ t) in
     let h : Met bank (hours-of 31 128 .condition) 72 127 = subst (λ (c : Cell). Met bank (hours-of 31 128 .condition) (c .letter) (c .number)) d (m .3) in
     let z : _≡_ {A = ℕ} 0 1 = h .1 .2 in
     omega arith
 
 pub worked : Worked-cases
 worked = record {
-    two-values = two-values;
-    inside-itself = inside-itself;
-    all-free = all-free;
-    two-letters = two-letters;
-    smallest-of-both = smallest-of-both;
-    none-of-both = none-of-both;
-    none-of-three = none-of-three;
-    number-or-class = number-or-class;
-    in-the-week = in-the-week;
-    at-the-weekend = at-the-weekend;
-  }
+  two-values = two-values;
+  inside-itself = inside-itself;
+  all-free = all-free;
+  two-letters = two-letters;
+  smallest-of-both = smallest-of-both;
+  none-of-both = none-of-both;
+  none-of-three = none-of-three;
+  number-or-class = number-or-class;
+  in-the-week = in-the-week;
+  at-the-weekend = at-the-weekend;
+}

@@ -1,5 +1,5 @@
 -- Pairs of patterns that are worked out, over the bank of numbers, hours and classes.
-use mathlib.Core.List.{List, [], _∷_, _++_}
+use mathlib.Core.List.{List, [], _∷_}
 use Prim.Native.Nat.{ℕ}
 use lib.ListN.{replicate}
 use Rattle.kinds.specs.Meaning.{Meaning}

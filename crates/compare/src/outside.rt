@@ -1,5 +1,4 @@
 // A comparison of two patterns as a caller writes them.
-ghost use mathlib.Core.Path.{_≡_};
 ghost use Rattle.unification.specs.Sheets.{Blank};
 ghost use Rattle.compare.specs.Outside.{Compared};
 use crate::binding::Binding;

@@ -1,6 +1,6 @@
 // Whether some row fits two patterns.
 ghost use mathlib.Core.Path.{_≡_};
-ghost use Prim.Native.Nat.{ℕ, _<_, _≤_};
+ghost use Prim.Native.Nat.{ℕ, _-_, _<_, _≤_};
 ghost use lib.ListN.{length};
 ghost use Rattle.std.specs.Options.{Cases};
 ghost use Rattle.std.specs.Orderings.{Decides};
@@ -12,7 +12,7 @@ ghost use Rattle.unification.specs.Unifiers.{sequence};
 ghost use Rattle.unification.specs.Sheets.{Good, Straight, Blank};
 ghost use Rattle.unification.specs.Orders.{Ordered};
 ghost use Rattle.unification.specs.Pairs.{Overlap};
-ghost use Rattle.compare.specs.Bindings.{replacements};
+ghost use Rattle.compare.specs.Bindings.{Within-patterns, replacements};
 ghost use Rattle.compare.specs.Roots.{constraint-at};
 ghost use Rattle.compare.specs.Answers.{Unsampled, Drawn, Common-part};
 use crate::classes::roots_of;
@@ -49,7 +49,7 @@ fn finish<K: Kind>(
     requires straight { ⌜ Straight (now cells) (now sheet) ⌝ }
     requires few { ⌜ length (now constraints) ≤ 16 ⌝ }
     requires named { ⌜ ((k : ℕ) → k < length (now constraints) → constraint-at (now constraints) k .variable < 16) ⌝ }
-    ensures { λ r. ⌜ Cases r (Unsampled (now (signature .entry) .arities) (K·Kind .means (now (kind .entry))) (now (cells .entry)) (now (sheet .entry)) (now (constraints .entry))) (λ common. Ordered (now (signature .entry) .arities) (now (cells .entry)) (now (sheet .entry)) (replacements (now (signature .entry) .arities) (now (cells .entry)) left (common .bindings)) × Drawn (now (signature .entry) .arities) (K·Kind .means (now (kind .entry))) (now (cells .entry)) (now (sheet .entry)) (now (constraints .entry)) (sequence (replacements (now (signature .entry) .arities) (now (cells .entry)) left (common .bindings))) (common .sample)) ⌝ }
+    ensures { λ r. ⌜ Cases r (Unsampled (now (signature .entry) .arities) (K·Kind .means (now (kind .entry))) (now (cells .entry)) (now (sheet .entry)) (now (constraints .entry))) (λ common. Ordered (now (signature .entry) .arities) (now (cells .entry)) (now (sheet .entry)) (replacements (now (signature .entry) .arities) (now (cells .entry)) left (common .bindings)) × All (Within-patterns left (length (now (cells .entry)) - left)) (common .bindings) × Drawn (now (signature .entry) .arities) (K·Kind .means (now (kind .entry))) (now (cells .entry)) (now (sheet .entry)) (now (constraints .entry)) (sequence (replacements (now (signature .entry) .arities) (now (cells .entry)) left (common .bindings))) (common .sample)) ⌝ }
 {
     let bindings = order(signature, cells, sheet, left)?;
     let roots = roots_of(signature, cells, sheet);

@@ -1,6 +1,6 @@
 // The binding sheet: sixteen entries, one for each variable of the two patterns.
 ghost use mathlib.Core.Path.{_≡_};
-ghost use Prim.Native.Nat.{ℕ, _^_, _<_, _≤_};
+ghost use Prim.Native.Nat.{_^_, _<_, _≤_};
 ghost use lib.ListN.{length, replicate};
 ghost use Rattle.std.specs.Options.{Cases};
 ghost use Rattle.unification.specs.Sheets.{blank, Blank, entry, entry-to};

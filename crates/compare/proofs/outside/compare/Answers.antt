@@ -26,8 +26,8 @@ returns g c =
     let r = c .in-Continue-second .ensures tt in
     record {
       answer = written (c .in-Continue-signature .signature .arities) (c .args .arities .now) (g .K·Kind .means (c .args .kind .now))
-        (described (c .in-Continue-first .first)) (record { cells = c .args .left .cells .now; constraints = c .args .left .constraints .now })
-        (described (c .in-Continue-second .second)) (record { cells = c .args .right .cells .now; constraints = c .args .right .constraints .now })
-        (c .in-Some .common) (s .0) (l .0) (r .0) (s .1) (l .1) (r .1) (c .in-Some .ensures tt .answer);
+          (described (c .in-Continue-first .first)) (record { cells = c .args .left .cells .now; constraints = c .args .left .constraints .now })
+          (described (c .in-Continue-second .second)) (record { cells = c .args .right .cells .now; constraints = c .args .right .constraints .now })
+          (c .in-Some .common) (s .0) (l .0) (r .0) (s .1) (l .1) (r .1) (c .in-Some .ensures tt .answer);
       blank = search needs;
     }

@@ -1,4 +1,4 @@
-use mathlib.Core.Path.{_≡_, refl, sym, _∙_, ap, subst}
+use mathlib.Core.Path.{sym, subst}
 use mathlib.Core.Bool.{Bool}
 use Rattle.std.specs.Options.{Cases}
 use Rattle.std.specs.Orderings.{Decides}
@@ -7,7 +7,7 @@ use Rattle.terms.specs.Proper.{Proper-pattern}
 use Rattle.unification.specs.Sheets.{blank}
 use Rattle.unification.specs.Pairs.{Overlap}
 use Rattle.compare.specs.Answers.{Common-part}
-use Rattle.compare.proofs.Alone.{alone, alone-proper, fits-told}
+use Rattle.compare.proofs.Alone.{alone-proper, fits-told}
 use Rattle.compare.proofs.overlap.fits.Needs as need
 
 pub overlap-requires : need.overlap-requires
@@ -28,6 +28,6 @@ returns g c =
     let told = subst (λ (d : Description). Cases (c .overlap .result) (Overlap sig M d p → ⊥) (λ a. Common-part sig M d p a)) (c .from-row-alone .ensures) (c .overlap .ensures .answer) in
     record {
       answer = subst (λ (b : Bool). Decides b (Fits sig M row p)) (sym (c .is-some .ensures))
-        (fits-told sig M row p (c .args .signature .now .nought) (c .pre .row) (c .overlap .result) told);
+          (fits-told sig M row p (c .args .signature .now .nought) (c .pre .row) (c .overlap .result) told);
       blank = c .overlap .ensures .blank;
     }
