@@ -1,4 +1,6 @@
 // The library for callers in C and Rust: numbers and byte slices only. Anything may be passed; what is no pattern is refused.
+ghost use Rattle.link.specs.Searches.{Found};
+
 mod decode;
 
 use compare::outside::Comparison;
@@ -24,7 +26,9 @@ const NO_CODE: u32 = 4_294_967_295;
 
 // The smallest code of the condition's set that is at least v, over numbers, hours and classes; 4,294,967,295 where there is none.
 #[unsafe(no_mangle)]
-pub extern "C" fn pilmoert_next(form: u8, a: u32, b: u32, v: u32) -> u32 {
+pub extern "C" fn pilmoert_next(form: u8, a: u32, b: u32, v: u32) -> u32
+    ensures { λ r. ⌜ Found (record { form = form; a = a; b = b }) v r ⌝ }
+{
     match ALL_KINDS.next(Condition { form, a, b }, v) {
         Some(code) => code,
         None => NO_CODE,
