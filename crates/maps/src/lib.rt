@@ -1,0 +1,9 @@
+// Maps from rows to counts: theory only. The function asks for the theorems.
+ghost use Rattle.maps.specs.Sizes.{OneSize, SizeMoves};
+
+pub fn sizes_stand<R>() -> u8
+    ensures one { λ _. ⌜ OneSize R ⌝ }
+    ensures moves { λ _. ⌜ SizeMoves R ⌝ }
+{
+    0
+}

@@ -1,0 +1,3 @@
+mod Covered
+pub mod Invariant
+mod Refuted
