@@ -4,11 +4,21 @@ use mathlib.Core.List.{List, [], _∷_, _++_}
 use Prim.Native.Nat.{ℕ, zero, suc, _+_, _-_, _<_, _≤_}
 use native.Mathlib.Omega.{arith}
 use lib.ListN.{length, getD, take}
-use Rattle.std.proofs.shelf.Lists.{take-more}
+use lib.Dec.{eqb}
+use mathlib.Core.Bool.{Bool, true, false, cond}
+use Rattle.std.proofs.shelf.Lists.{take-more, getD-past}
+use Rattle.std.proofs.shelf.Tests.{ne-eqb, cond-both}
 use Rattle.terms.specs.declared.cell.Cell.{Cell}
 use Rattle.terms.specs.Terms.{arity, Leaves}
 
 module _ (sig : List ℕ) where
+  -- no arguments follow what is no symbol, or a symbol past the signature
+  pub arity-none : (c : Cell) → (c .letter ≡ 83 → ⊥) → 0 ≡ arity sig c
+  arity-none c h = ap (λ (b : Bool). cond b (getD sig (c .number) 0) 0) (sym (ne-eqb (c .letter) 83 h))
+
+  pub arity-past : (c : Cell) → length sig ≤ c .number → 0 ≡ arity sig c
+  arity-past c h = cond-both (eqb (c .letter) 83) (getD sig (c .number) 0) 0 (λ n. 0 ≡ n) (λ _. sym (getD-past sig (c .number) 0 h)) (λ _. refl)
+
   -- cells after cells
   pub leaves-append : (n m k : ℕ) (xs ys : List Cell) → Leaves sig n xs m → Leaves sig m ys k → Leaves sig n (xs ++ ys) k
   leaves-append n m k [] ys h j = subst (λ (z : ℕ). Leaves sig z ys k) (sym h) j

@@ -1,2 +1,3 @@
 pub mod Leaving
 mod Scans
+mod Firsts

@@ -1,18 +1,23 @@
 -- The scan of cells: what the cells before a place, and the cell at it, say of all proper cells.
 use mathlib.Core.Path.{_≡_, refl, sym, ap, _∙_, subst}
 use mathlib.Core.List.{List, [], _∷_, _++_}
+use mathlib.Core.Logic.{_⊎_, inl, inr, ⊎-map}
 use Prim.Native.Nat.{ℕ, zero, suc, _+_, _-_, _<_, _≤_}
 use native.Mathlib.Omega.{arith}
 use lib.ListN.{length, getD, take, drop, replicate}
 use Rattle.std.specs.shelf.Lists.{All}
-use Rattle.std.proofs.shelf.Lists.{take-more, take-append-drop, take-at, take-all, length-take, length-take-le, length-drop, length-append, length-replicate, getD-take}
+use Rattle.std.proofs.shelf.Lists.{take-more, take-append-drop, take-at, take-all, length-take, length-take-le, length-drop, length-append, length-replicate, getD-default, getD-past}
 use Rattle.std.proofs.shelf.Elements.{all-append, all-take, all-getD, all-more}
 use Rattle.refusals.specs.Places.{First-fault}
+use Rattle.refusals.proofs.Places.{agrees-at}
 use Rattle.kinds.specs.Meaning.{Meaning}
 use Rattle.terms.specs.declared.cell.Cell.{Cell}
 use Rattle.terms.specs.Terms.{arity, Leaves, Are, Fine, Starts, Term}
 use Rattle.terms.specs.Proper.{Small-term}
-use Rattle.terms.specs.Reading.{Goes-on}
+use Rattle.terms.specs.Reading.{Goes-on, Stray, Cells-refused}
+use Rattle.terms.specs.declared.fault.PatternFault.{PatternFault}
+use Rattle.terms.specs.declared.fault.PatternFault.the-variants.{Bank, Structure}
+use Rattle.kinds.specs.declared.fault.BankFault.the-variants.{Value as BadValue}
 use Rattle.terms.proofs.Leaving.{leaves-append, leaves-split, leaves-one, leaves-few, leaves-cell, leaves-more}
 
 -- the symbol that ends every term
@@ -91,8 +96,9 @@ module _ (sig : List ℕ) (zero-arity : getD sig 0 0 ≡ 0) (M : Meaning) (v lim
       agrees : (ds : List Cell) → Small-term sig M v limit ds → take (i + 1) ds ≡ take (i + 1) cs → Goes-on sig M v limit (getD cs i d) i to-come
       agrees ds t e =
           let c = getD cs i d in
-          let l : i + 1 ≤ length ds = let p = ap length e in let q = length-take (i + 1) ds in let r = length-take (i + 1) cs in omega arith in
-          let same : getD ds i d ≡ c = sym (getD-take (i + 1) ds i d (omega arith)) ∙ ap (λ xs. getD xs i d) e ∙ getD-take (i + 1) cs i d (omega arith) in
+          let at-i = agrees-at cs ds i here e in
+          let l : i < length ds = at-i .0 in
+          let same : getD ds i d ≡ c = at-i .1 d in
           let whole : Leaves sig 1 (take (i + 1) cs ++ drop (i + 1) ds) 0 =
                 subst (λ (xs : List Cell). Leaves sig 1 xs 0) (sym (take-append-drop (i + 1) ds) ∙ ap (λ xs. xs ++ drop (i + 1) ds) e) (t .term .whole) in
           let parts = leaves-split sig 1 0 (take (i + 1) cs) (drop (i + 1) ds) whole in
@@ -116,6 +122,16 @@ module _ (sig : List ℕ) (zero-arity : getD sig 0 0 ≡ 0) (M : Meaning) (v lim
           here = λ ds t e. no-more (agrees ds t e);
         }
 
+      -- so it is refused, with its own fault
+      pub refused-here : (f : PatternFault) → (Goes-on sig M v limit (getD cs i d) i to-come → ⊥)
+          × (((f ≡ Bank (BadValue i)) × Stray M (getD cs i d)) ⊎ ((f ≡ Structure i) × (Stray M (getD cs i d) → ⊥)))
+          → Cells-refused (Small-term sig M v limit) M cs f
+      refused-here f r = record {
+          place = i;
+          first = fault-here (r .0);
+          fault = ⊎-map (λ b. (b .0, λ e. subst (Stray M) (getD-default cs i d e here) (b .1))) (λ b. (b .0, λ stray. b .1 (stray d))) (r .1);
+        }
+
   -- all cells are read and terms are still to come: the end is the first fault
   pub fault-end : (cs : List Cell) (i to-come : ℕ) → Before cs i to-come → i ≡ length cs → 0 < to-come → First-fault (Small-term sig M v limit) cs (length cs)
   fault-end cs i to-come before e some =
@@ -132,6 +148,14 @@ module _ (sig : List ℕ) (zero-arity : getD sig 0 0 ≡ 0) (M : Meaning) (v lim
             let z = leaves-one sig 1 to-come 0 cs (subst (λ (xs : List Cell). Leaves sig 1 xs to-come) all (b .reads)) (subst (λ (xs : List Cell). Leaves sig 1 xs 0) same (t .term .whole)) in
             omega arith;
       }
+
+  pub refused-end : (cs : List Cell) (i to-come : ℕ) → Before cs i to-come → i ≡ length cs → 0 < to-come
+      → Cells-refused (Small-term sig M v limit) M cs (Structure (length cs))
+  refused-end cs i to-come before e some = record {
+      place = length cs;
+      first = fault-end cs i to-come before e some;
+      fault = inr (refl, λ stray. stray nought .no-symbol (ap (λ (c : Cell). c .letter) (getD-past cs (length cs) nought (omega arith))));
+    }
 
   -- all cells are read and none is to come: they are proper
   pub proper-end : (cs : List Cell) (i to-come : ℕ) → Before cs i to-come → i ≡ length cs → to-come ≡ 0 → Small-term sig M v limit cs

@@ -28,13 +28,13 @@ pub record Stray (M : Meaning) (c : Cell) : Type 0 where
   pub no-variable : c .letter ≡ 86 → ⊥
   pub no-value : Value M (c .letter) (c .number) → ⊥
 
-abbrev pub cell-at : List Cell → ℕ → Cell
-cell-at cs i = getD cs i (record { letter = 32; number = 0 })
+-- a stray value stands at place i (and past the end stands none)
+abbrev pub Stray-at : Meaning → List Cell → ℕ → Type 0
+Stray-at M cs i = (d : Cell) → Stray M (getD cs i d)
 
 -- the fault of the cell at place i: the bank's if the cell is a stray value, and else the pattern's, as where cells lack
 abbrev pub Cell-fault : Meaning → List Cell → ℕ → PatternFault → Type 0
-Cell-fault M cs i f =
-    ((f ≡ Bank (BadValue i)) × (i < length cs) × Stray M (cell-at cs i)) ⊎ ((f ≡ Structure i) × (i < length cs → Stray M (cell-at cs i) → ⊥))
+Cell-fault M cs i f = ((f ≡ Bank (BadValue i)) × Stray-at M cs i) ⊎ ((f ≡ Structure i) × (Stray-at M cs i → ⊥))
 
 -- the first cell that no proper cells begin with
 pub record Cells-refused (Proper : List Cell → Type 0) (M : Meaning) (cs : List Cell) (f : PatternFault) : Type 0 where
