@@ -40,11 +40,11 @@ unfolding front
 decimal-front n h =
     ⊎-elim
     (λ small.
-        let q : n / 10 ≡ 0 = omega arith in
-        let r : n % 10 ≡ n = omega arith in
-        decimal-digit n small ∙ sym (ap (λ m. map (λ d. 48 + d) (digitsOf 10 m) ++ ((48 + n % 10) ∷ [])) q ∙ ap (λ m. (48 + m) ∷ []) r))
+    let q : n / 10 ≡ 0 = omega arith in
+    let r : n % 10 ≡ n = omega arith in
+    decimal-digit n small ∙ sym (ap (λ m. map (λ d. 48 + d) (digitsOf 10 m) ++ ((48 + n % 10) ∷ [])) q ∙ ap (λ m. (48 + m) ∷ []) r))
     (λ large.
-        decimal-step n large h ∙ ap (λ ds. ds ++ ((48 + n % 10) ∷ [])) (decimal-digitsOf (n / 10) (omega arith) (omega arith)))
+    decimal-step n large h ∙ ap (λ ds. ds ++ ((48 + n % 10) ∷ [])) (decimal-digitsOf (n / 10) (omega arith) (omega arith)))
     (cases-lt n 10)
 
 pub decimal-length : (n : ℕ) → n < 2 ^ 64 → length (decimal n) ≡ length (front (n / 10)) + 1
@@ -75,14 +75,14 @@ front-mark : (i m : ℕ) → pad (i + 1) (front m) ≡ pad i (front (m / 10)) ++
 front-mark i m =
     ⊎-elim
     (λ z.
-        let q : m / 10 ≡ 0 = omega arith in
-        let k : mark m ≡ 32 = cond-true (eqb m 0) 32 (48 + m % 10) (eq-eqb m 0 z) in
-        let a : pad (i + 1) (front m) ≡ blank (i + 1) = ap (λ v. pad (i + 1) (front v)) z ∙ ap (pad (i + 1)) front-zero ∙ pad-none (i + 1) in
-        let b : pad i (front (m / 10)) ≡ blank i = ap (λ v. pad i (front v)) q ∙ ap (pad i) front-zero ∙ pad-none i in
-        a ∙ sym (replicate-more i 32) ∙ sym (ap (λ v. v ++ (mark m ∷ [])) b ∙ ap (λ v. blank i ++ (v ∷ [])) k))
+    let q : m / 10 ≡ 0 = omega arith in
+    let k : mark m ≡ 32 = cond-true (eqb m 0) 32 (48 + m % 10) (eq-eqb m 0 z) in
+    let a : pad (i + 1) (front m) ≡ blank (i + 1) = ap (λ v. pad (i + 1) (front v)) z ∙ ap (pad (i + 1)) front-zero ∙ pad-none (i + 1) in
+    let b : pad i (front (m / 10)) ≡ blank i = ap (λ v. pad i (front v)) q ∙ ap (pad i) front-zero ∙ pad-none i in
+    a ∙ sym (replicate-more i 32) ∙ sym (ap (λ v. v ++ (mark m ∷ [])) b ∙ ap (λ v. blank i ++ (v ∷ [])) k))
     (λ nz.
-        let k : mark m ≡ 48 + m % 10 = cond-false (eqb m 0) 32 (48 + m % 10) (ne-eqb m 0 nz) in
-        ap (pad (i + 1)) (front-step m (omega arith)) ∙ pad-push i (front (m / 10)) (48 + m % 10) ∙ ap (λ v. pad i (front (m / 10)) ++ (v ∷ [])) (sym k))
+    let k : mark m ≡ 48 + m % 10 = cond-false (eqb m 0) 32 (48 + m % 10) (ne-eqb m 0 nz) in
+    ap (pad (i + 1)) (front-step m (omega arith)) ∙ pad-push i (front (m / 10)) (48 + m % 10) ∙ ap (λ v. pad i (front (m / 10)) ++ (v ∷ [])) (sym k))
     (cases-eq m 0)
 
 front-rest : (m i : ℕ) → length (front m) ≤ i + 1 → length (front (m / 10)) ≤ i
@@ -158,9 +158,9 @@ pub shown-next : (part : List ℕ) (n i j rest : ℕ) → i ≡ j + 1 → Done p
 shown-next part n i j rest e w s =
     let f = w .fits in
     ap (λ t. getD t j 0)
-      (s ∙ sym (w .shown) ∙ ap (λ k. pad k (front rest) ++ drop k part) e
-      ∙ ap (λ v. v ++ drop (j + 1) part) (front-mark j rest)
-      ∙ append-assoc (pad j (front (rest / 10))) (mark rest ∷ []) (drop (j + 1) part))
+    (s ∙ sym (w .shown) ∙ ap (λ k. pad k (front rest) ++ drop k part) e
+    ∙ ap (λ v. v ++ drop (j + 1) part) (front-mark j rest)
+    ∙ append-assoc (pad j (front (rest / 10))) (mark rest ∷ []) (drop (j + 1) part))
     ∙ getD-at (pad j (front (rest / 10))) (mark rest) (drop (j + 1) part) 0 j (pad-length j (front (rest / 10)) (front-rest rest j (omega arith)))
 
 -- reading back
@@ -174,10 +174,10 @@ worth-under b =
     ⊎-elim
     (λ l. let e = cond-true (ltb b 48) 0 (cond (ltb b 58) (b - 48) 0) (lt-ltb b 48 l) in omega arith)
     (λ g. let e = cond-false (ltb b 48) 0 (cond (ltb b 58) (b - 48) 0) (le-ltb b 48 g) in
-        ⊎-elim
-        (λ l. let f = cond-true (ltb b 58) (b - 48) 0 (lt-ltb b 58 l) in omega arith)
-        (λ m. let f = cond-false (ltb b 58) (b - 48) 0 (le-ltb b 58 m) in omega arith)
-        (cases-lt b 58))
+    ⊎-elim
+    (λ l. let f = cond-true (ltb b 58) (b - 48) 0 (lt-ltb b 58 l) in omega arith)
+    (λ m. let f = cond-false (ltb b 58) (b - 48) 0 (le-ltb b 58 m) in omega arith)
+    (cases-lt b 58))
     (cases-lt b 48)
 
 worth-all : (s : List ℕ) → Under 10 (map worth s)
@@ -257,3 +257,17 @@ columns-fits part n e =
     let a = ap length e in
     let b = length-append (replicate (length part - length (decimal n)) 32) (decimal n) in
     omega arith
+
+-- nor at any width
+pub columns-unblank : (w n : ℕ) → n < 2 ^ 64 → columns w n ≡ blank w → ⊥
+columns-unblank w n h e =
+    ⊎-elim
+    (λ z.
+    let l = columns-fits (blank w) n (sym e ∙ ap (λ m. columns m n) (sym (length-replicate {A = ℕ} w 32))) in
+    let d = decimal-some n h in
+    let k = length-replicate {A = ℕ} w 32 in
+    omega arith)
+    (λ nz.
+    let s : w ≡ w - 1 + 1 = omega arith in
+    columns-marked (w - 1) n h (ap (λ m. columns m n) (sym s) ∙ e ∙ ap blank s))
+    (cases-eq w 0)

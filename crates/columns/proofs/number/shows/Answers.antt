@@ -24,9 +24,10 @@ loop-i-holds c =
 
 pub returns-then-part-i-2 : need.returns-then-part-i-2
 returns-then-part-i-2 c =
-    let i = c .loop-i .i in
-    (λ e. absurd (false≢true e),
-    λ s. absurd (c .if-part-i-2 .taken (shown-next (c .args .part .now) (c .args .n) i (i - 1) (c .loop-i .rest) (omega arith) (c .loop-i .inv) s ∙ sym (c .mark-of .ensures))))
+    let i = c .loop-i .i in (
+      λ e. absurd (false≢true e),
+      λ s. absurd (c .if-part-i-2 .taken (shown-next (c .args .part .now) (c .args .n) i (i - 1) (c .loop-i .rest) (omega arith) (c .loop-i .inv) s ∙ sym (c .mark-of .ensures))),
+    )
 
 pub loop-i-again : need.loop-i-again
 loop-i-again c =

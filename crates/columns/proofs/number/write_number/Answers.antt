@@ -21,6 +21,8 @@ loop-i-again c =
 pub returns : need.returns
 unfolding columns
 returns c =
-    let w = c .width-of .ensures in
-    (done-last (c .loop-i .part) (c .args .n) (c .loop-i .i) (c .loop-i .rest) (omega arith) (c .loop-i .inv)
-    ∙ ap (λ m. columns m (c .args .n)) (c .loop-i .kept .part ∙ length-set (c .args .part .now) _ _), omega arith)
+    let w = c .width-of .ensures in (
+      done-last (c .loop-i .part) (c .args .n) (c .loop-i .i) (c .loop-i .rest) (omega arith) (c .loop-i .inv)
+          ∙ ap (λ m. columns m (c .args .n)) (c .loop-i .kept .part ∙ length-set (c .args .part .now) _ _),
+      omega arith,
+    )
