@@ -1,7 +1,10 @@
 // Two kinds as one; each part may itself be a bank.
 ghost use Rattle.kinds.specs.Banks.{both};
+use crate::class::Class;
 use crate::condition::Condition;
+use crate::hour::Hour;
 use crate::kind::Kind;
+use crate::number::Number;
 
 #[derive(Clone, Copy, Debug)]
 pub struct Bank<P, Q> {
@@ -40,3 +43,14 @@ pub impl<P: Kind, Q: Kind> Kind for Bank<P, Q> as BankKind {
         }
     }
 }
+
+// Numbers, hours and classes together.
+pub type AllKinds = Bank<Number, Bank<Hour, Class>>;
+
+pub const ALL_KINDS: AllKinds = Bank {
+    first: Number,
+    second: Bank {
+        first: Hour,
+        second: Class,
+    },
+};

@@ -5,8 +5,7 @@ use mathlib.Core.List.{List, [], _∷_, _++_}
 use Prim.Native.Nat.{ℕ, suc, _+_}
 use native.Mathlib.Omega.{arith}
 use lib.ListN.{length, length-append}
-use Rattle.std.specs.declared.option.Option.{Option}
-use Rattle.std.specs.declared.option.Option.the-variants.{Some, None}
+use Rattle.std.specs.declared.option.Option.the-variants.{Some}
 use Rattle.maps.specs.Maps.{In, Once, Map, Has, countOf, totalOf, Figures}
 use Rattle.maps.proofs.Lists.{in-append, append-left, append-right, once-append, cut, in-cut, cut-in, cut-gone, cut-once, cut-length}
 

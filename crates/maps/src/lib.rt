@@ -1,4 +1,4 @@
-// Maps from rows to counts: theory only. The function asks for the theorems.
+// Maps from rows to counts: theory only. The function asks for the theorems on sizes.
 ghost use Rattle.maps.specs.Sizes.{OneSize, SizeMoves};
 
 pub fn sizes_stand<R>() -> u8

@@ -1,15 +1,15 @@
 -- The answers of a script, run alone, stay when the map changes only at rows that none of its reservations lets it see.
-use mathlib.Core.Path.{_≡_, refl, sym, _∙_, ap, subst}
+use mathlib.Core.Path.{_≡_, sym, _∙_, ap, subst}
 use mathlib.Core.Logic.{ite}
-use mathlib.Core.List.{List, [], _∷_}
+use mathlib.Core.List.{[], _∷_}
 use Prim.Native.Nat.{ℕ}
 use Rattle.std.specs.declared.option.Option.{Option}
 use Rattle.std.specs.declared.option.Option.the-variants.{Some, None}
-use Rattle.maps.specs.Maps.{Map, Figures}
+use Rattle.maps.specs.Maps.{Map}
 use Rattle.maps.proofs.Figures.{figures-same}
 use Rattle.serial.specs.Language.{Language}
 use Rattle.serial.specs.Rights.{Change, Allows, becomes}
-use Rattle.serial.specs.History.{Grant, Deed, Script}
+use Rattle.serial.specs.History.{Grant, Script}
 use Rattle.serial.specs.History.{Deed.looked, Deed.surveyed, Deed.changed}
 use Rattle.serial.specs.Alone.{change, after, Answered}
 

@@ -1,16 +1,16 @@
 -- Every run is serial: by an invariant, one call after another.
 use mathlib.Core.Path.{_≡_, refl, sym, _∙_, ap, subst, fun-ext}
-use mathlib.Core.Logic.{_⊎_, inl, inr, ⊎-elim, ⊎-swap, ite, if-pos, if-neg, by-cases}
-use mathlib.Core.List.{List, [], _∷_, map}
+use mathlib.Core.Logic.{_⊎_, inl, inr, ⊎-elim, ⊎-swap, if-pos, if-neg, by-cases}
+use mathlib.Core.List.{[], _∷_, map}
 use Prim.Native.Nat.{ℕ}
 use native.Mathlib.Decide.{ℕ-discrete}
 use Rattle.std.specs.declared.option.Option.{Option}
-use Rattle.std.specs.declared.option.Option.the-variants.{Some, None}
+use Rattle.std.specs.declared.option.Option.the-variants.{Some}
 use Rattle.maps.specs.Maps.{Map, Same, In}
 use Rattle.maps.proofs.Lists.{in-map, map-same}
 use Rattle.serial.specs.Language.{Language}
 use Rattle.serial.specs.Rights.{Right}
-use Rattle.serial.specs.History.{Call, Event, History, Grant, Deed, begins, ends, commits, grants, Open, Stands, script, fed, patternOf}
+use Rattle.serial.specs.History.{Call, Event, History, Grant, Deed, begins, ends, commits, commitNumbers, grants, Open, Stands, script, fed, patternOf}
 use Rattle.serial.specs.History.{Event.refused, Event.began, Event.reserved, Event.did, Event.committed, Event.abandoned}
 use Rattle.serial.specs.History.{Deed.looked, Deed.surveyed, Deed.changed}
 use Rattle.serial.specs.Alone.{after, Answered, InTurn}
@@ -44,7 +44,7 @@ module _ {Row Pattern : Type 0} (L : Language Row Pattern) (first : Map Row) whe
 
   pub inv-new : Inv [] first
   inv-new = record {
-    named = record { transactions = tt; reservations = tt; endings = tt };
+    named = record { transactions = tt; reservations = tt; commits = tt; endings = tt };
     apart = λ q g s. absurd (s .0);
     inTurn = λ r. refl;
     alone = λ t o. tt;
@@ -58,7 +58,7 @@ module _ {Row Pattern : Type 0} (L : Language Row Pattern) (first : Map Row) whe
   module _ (h : History Row Pattern) (m : Map Row) (i : Inv h m) where
     after-refused : (c : Call Row Pattern) (n : ℕ) → Inv (refused c n ∷ h) m
     after-refused c n = record {
-      named = record { transactions = i .named .transactions; reservations = i .named .reservations; endings = i .named .endings };
+      named = record { transactions = i .named .transactions; reservations = i .named .reservations; commits = i .named .commits; endings = i .named .endings };
       apart = i .apart;
       inTurn = i .inTurn;
       alone = i .alone;
@@ -71,7 +71,7 @@ module _ {Row Pattern : Type 0} (L : Language Row Pattern) (first : Map Row) whe
 
     after-began : (planner t : ℕ) → ¬ In t (begins h) → Inv (began planner t ∷ h) m
     after-began planner t fresh = record {
-      named = record { transactions = (fresh, i .named .transactions); reservations = i .named .reservations; endings = i .named .endings };
+      named = record { transactions = (fresh, i .named .transactions); reservations = i .named .reservations; commits = i .named .commits; endings = i .named .endings };
       apart = λ g q s s′. i .apart g q (s .0, (i .owned g (s .0), s .1 .1)) (s′ .0, (i .owned q (s′ .0), s′ .1 .1));
       inTurn = i .inTurn;
       alone = λ u o. ⊎-elim
@@ -87,7 +87,7 @@ module _ {Row Pattern : Type 0} (L : Language Row Pattern) (first : Map Row) whe
 
     after-abandoned : (t n : ℕ) → Open t h → Inv (abandoned t n ∷ h) m
     after-abandoned t n open-t = record {
-      named = record { transactions = i .named .transactions; reservations = i .named .reservations; endings = (open-t .1, i .named .endings) };
+      named = record { transactions = i .named .transactions; reservations = i .named .reservations; commits = i .named .commits; endings = (open-t .1, i .named .endings) };
       apart = λ g q s s′. i .apart g q (s .0, (s .1 .0, λ e. s .1 .1 (inr e))) (s′ .0, (s′ .1 .0, λ e. s′ .1 .1 (inr e)));
       inTurn = i .inTurn;
       alone = λ u o. i .alone u (o .0, λ e. o .1 (inr e));
@@ -108,9 +108,9 @@ module _ {Row Pattern : Type 0} (L : Language Row Pattern) (first : Map Row) whe
           ((λ e. ne (sym (had .1) ∙ sym e ∙ had′ .1)), inl x, (r, f′, f))))
           (script t h) (i .covered t) (m r))
 
-      after-committed : (n : ℕ) → Inv (committed t n ∷ h) m′
-      after-committed n = record {
-        named = record { transactions = i .named .transactions; reservations = i .named .reservations; endings = (open-t .1, i .named .endings) };
+      after-committed : (n : ℕ) → ¬ In n (commitNumbers h) → Inv (committed t n ∷ h) m′
+      after-committed n fresh = record {
+        named = record { transactions = i .named .transactions; reservations = i .named .reservations; commits = (fresh, i .named .commits); endings = (open-t .1, i .named .endings) };
         apart = λ g q s s′. i .apart g q (s .0, (s .1 .0, λ e. s .1 .1 (inr e))) (s′ .0, (s′ .1 .0, λ e. s′ .1 .1 (inr e)));
         inTurn = (m, i .inTurn, i .alone t open-t, left);
         alone = λ u o.
@@ -138,7 +138,7 @@ module _ {Row Pattern : Type 0} (L : Language Row Pattern) (first : Map Row) whe
 
         after-reserved : Inv (reserved t w p n ∷ h) m
         after-reserved = record {
-          named = record { transactions = i .named .transactions; reservations = ((λ x. let y = in-map (λ g. g .number) (grants h) n x in fresh (y .0) (y .1) (sym (y .2))), i .named .reservations); endings = i .named .endings };
+          named = record { transactions = i .named .transactions; reservations = ((λ x. let y = in-map (λ g. g .number) (grants h) n x in fresh (y .0) (y .1) (sym (y .2))), i .named .reservations); commits = i .named .commits; endings = i .named .endings };
           apart = λ g q s s′. apart-new g q (s .0) (s′ .0) (s .1) (s′ .1);
           inTurn = i .inTurn;
           alone = i .alone;
@@ -176,7 +176,7 @@ module _ {Row Pattern : Type 0} (L : Language Row Pattern) (first : Map Row) whe
 
       after-did : Inv (did t d ∷ h) m
       after-did = record {
-        named = record { transactions = i .named .transactions; reservations = i .named .reservations; endings = i .named .endings };
+        named = record { transactions = i .named .transactions; reservations = i .named .reservations; commits = i .named .commits; endings = i .named .endings };
         apart = i .apart;
         inTurn = subst (λ ss. InTurn L ss first m)
             (sym (map-same (λ u. script u (did t d ∷ h)) (λ u. script u h) (commits h)
@@ -201,10 +201,10 @@ module _ {Row Pattern : Type 0} (L : Language Row Pattern) (first : Map Row) whe
   inv-next h m (began planner t) m′ i l = moved (began planner t ∷ h) m m′ (l .1) (after-began h m i planner t (l .0))
   inv-next h m (reserved t w p n) m′ i l = moved (reserved t w p n ∷ h) m m′ (l .3) (after-reserved h m i t w p n (l .0) (l .1) (l .2))
   inv-next h m (did t d) m′ i l = moved (did t d ∷ h) m m′ (l .2) (after-did h m i t d (l .0) (l .1))
-  inv-next h m (committed t n) m′ i l = after-committed h m i t (l .0) m′ (l .1) n
+  inv-next h m (committed t n) m′ i l = after-committed h m i t (l .0) m′ (l .2) n (l .1)
   inv-next h m (abandoned t n) m′ i l = moved (abandoned t n ∷ h) m m′ (l .1) (after-abandoned h m i t n (l .0))
 
-  invariant : {h : History Row Pattern} {m : Map Row} → Run L first h m → Inv h m
+  pub invariant : {h : History Row Pattern} {m : Map Row} → Run L first h m → Inv h m
   invariant new = inv-new
   invariant (next {h} {m} e m′ run l) = inv-next h m e m′ (invariant run) l
 

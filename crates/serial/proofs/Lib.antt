@@ -1,3 +1,7 @@
 mod Covered
-pub mod Invariant
 mod Refuted
+pub mod Invariant
+pub mod Rolls
+pub mod Ties
+pub mod Entering
+pub mod Surveys

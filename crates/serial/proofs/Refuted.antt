@@ -1,16 +1,15 @@
 -- The sample histories are not serial.
-use mathlib.Core.Path.{_≡_, refl, sym, _∙_}
-use mathlib.Core.Logic.{_⊎_, inl, inr}
+use mathlib.Core.Path.{_≡_, refl}
+use mathlib.Core.Logic.{inl, inr}
 use mathlib.Core.List.{List, [], _∷_}
 use Prim.Native.Nat.{ℕ, _≤_}
 use native.Mathlib.Decide.{ℕ-discrete}
 use native.Mathlib.Omega.{arith}
 use lib.ListN.{length}
-use Rattle.std.specs.declared.option.Option.{Option}
 use Rattle.std.specs.declared.option.Option.the-variants.{Some}
-use Rattle.maps.specs.Maps.{Map, In, Figures}
+use Rattle.maps.specs.Maps.{In, Figures}
 use Rattle.serial.specs.Rights.{Right.reading, Right.writing}
-use Rattle.serial.specs.Samples.{numbers, NotSerial, overlapping, lostUpdate, halfSeen}
+use Rattle.serial.specs.Samples.{NotSerial, overlapping, lostUpdate, halfSeen}
 
 pub overlapping-refuted : NotSerial overlapping
 overlapping-refuted first m s =

@@ -8,7 +8,7 @@ use Rattle.std.specs.declared.option.Option.the-variants.{Some, None}
 use Rattle.maps.specs.Maps.{Map, Same, Figures}
 use Rattle.serial.specs.Language.{Language}
 use Rattle.serial.specs.Rights.{becomes}
-use Rattle.serial.specs.History.{Deed, Deed.looked, Deed.surveyed, Deed.changed, Script}
+use Rattle.serial.specs.History.{Deed.looked, Deed.surveyed, Deed.changed, Script}
 
 module _ {Row Pattern : Type 0} (L : Language Row Pattern) where
   -- what the script's changes of the row make of the count c

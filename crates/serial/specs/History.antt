@@ -1,6 +1,5 @@
 -- A history is the list of calls with their answers, the latest first.
 -- What it alone says: who is open, with which reservations, who committed, and what each transaction did.
-use mathlib.Core.Path.{_≡_}
 use mathlib.Core.Logic.{ite}
 use mathlib.Core.List.{List, [], _∷_}
 use Prim.Native.Nat.{ℕ}
@@ -79,6 +78,16 @@ module _ {Row Pattern : Type 0} where
   commits (did t d ∷ h) = commits h
   commits (committed t n ∷ h) = t ∷ commits h
   commits (abandoned t n ∷ h) = commits h
+
+  -- the numbers that commits answered
+  abbrev pub commitNumbers : History Row Pattern → List ℕ
+  commitNumbers [] = []
+  commitNumbers (refused c n ∷ h) = commitNumbers h
+  commitNumbers (began planner t ∷ h) = commitNumbers h
+  commitNumbers (reserved t w p n ∷ h) = commitNumbers h
+  commitNumbers (did t d ∷ h) = commitNumbers h
+  commitNumbers (committed t n ∷ h) = n ∷ commitNumbers h
+  commitNumbers (abandoned t n ∷ h) = commitNumbers h
 
   -- the transactions that a commit or an abandon ended
   abbrev pub ends : History Row Pattern → List ℕ

@@ -1,11 +1,11 @@
 -- What each granted call promises, of the history before it and of the maps before and after it; and every run of such calls.
 use mathlib.Core.Path.{_≡_}
-use mathlib.Core.List.{List, [], _∷_}
+use mathlib.Core.List.{[], _∷_}
 use Prim.Native.Nat.{ℕ}
 use Rattle.maps.specs.Maps.{Map, Same, In, Figures}
 use Rattle.serial.specs.Language.{Language}
 use Rattle.serial.specs.Rights.{Allows}
-use Rattle.serial.specs.History.{Event, History, Grant, Deed, begins, grants, Open, Stands, script}
+use Rattle.serial.specs.History.{Event, History, Grant, Deed, begins, commitNumbers, grants, Open, Stands, script}
 use Rattle.serial.specs.History.{Event.refused, Event.began, Event.reserved, Event.did, Event.committed, Event.abandoned}
 use Rattle.serial.specs.History.{Deed.looked, Deed.surveyed, Deed.changed}
 use Rattle.serial.specs.Alone.{after}
@@ -33,7 +33,7 @@ module _ {Row Pattern : Type 0} (L : Language Row Pattern) where
       × ((g : Grant Pattern) → Stands h g → ¬ Collide L g (record { owner = t; right = w; pattern = p; number = n }))
       × Same m′ m
   Legal h m (did t d) m′ = Open t h × Allowed h t m d × Same m′ m
-  Legal h m (committed t n) m′ = Open t h × Same m′ (after L (script t h) m)
+  Legal h m (committed t n) m′ = Open t h × (¬ In n (commitNumbers h)) × Same m′ (after L (script t h) m)
   Legal h m (abandoned t n) m′ = Open t h × Same m′ m
 
   -- a run of a new manager over the first map, with this history, to this map

@@ -5,3 +5,6 @@ pub mod Alone
 pub mod Serial
 pub mod Legal
 pub mod Samples
+pub mod Machine
+pub mod Entering
+pub mod Surveys

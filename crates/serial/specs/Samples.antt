@@ -1,5 +1,5 @@
 -- Three histories that are not serial, whatever the maps: they show that the serial order says something.
-use mathlib.Core.List.{List, [], _∷_}
+use mathlib.Core.List.{[], _∷_}
 use Prim.Native.Nat.{ℕ, _≤_}
 use native.Mathlib.Decide.{ℕ-discrete}
 use Rattle.std.specs.declared.option.Option.the-variants.{Some}

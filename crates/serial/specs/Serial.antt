@@ -1,11 +1,11 @@
 -- The serial order: what holds after any list of calls, of the map under the new manager, the history, and the map as it stands.
 use mathlib.Core.Path.{_≡_}
-use mathlib.Core.List.{List, map}
+use mathlib.Core.List.{map}
 use Prim.Native.Nat.{ℕ}
 use Rattle.maps.specs.Maps.{Map, Once}
 use Rattle.serial.specs.Language.{Language}
 use Rattle.serial.specs.Rights.{Conflict}
-use Rattle.serial.specs.History.{History, Grant, begins, ends, commits, grants, Open, Stands, script}
+use Rattle.serial.specs.History.{History, Grant, begins, ends, commits, commitNumbers, grants, Open, Stands, script}
 use Rattle.serial.specs.Alone.{Answered, InTurn}
 
 -- Two reservations collide: they are of different transactions, one is for writing, and some row fits both.
@@ -17,10 +17,12 @@ Collide {Row} L g q =
 abbrev pub Apart : {Row Pattern : Type 0} → Language Row Pattern → History Row Pattern → Type 0
 Apart {Row} {Pattern} L h = (g q : Grant Pattern) → Stands h g → Stands h q → ¬ Collide L g q
 
--- No two begins and no two reserves answer one number, and no transaction ends twice: so a number names one transaction, or one reservation.
+-- No two begins, no two reserves and no two commits answer one number, and no transaction ends twice:
+-- so a number names one transaction, one reservation or one commit.
 pub record Named {Row Pattern : Type 0} (h : History Row Pattern) : Type 0 where
   pub transactions : Once (begins h)
   pub reservations : Once (map (λ g. g .number) (grants h))
+  pub commits : Once (commitNumbers h)
   pub endings : Once (ends h)
 
 pub record Serial {Row Pattern : Type 0} (L : Language Row Pattern) (first : Map Row) (h : History Row Pattern) (m : Map Row) : Type 0 where
