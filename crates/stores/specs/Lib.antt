@@ -1,0 +1,4 @@
+pub mod Short
+pub mod Rows
+pub mod Faults
+pub mod Means

@@ -1,0 +1,7 @@
+// What a store of rows with counts is, and a table of records that is one.
+pub mod count;
+pub mod entry;
+pub mod fault;
+pub mod key;
+pub mod keys;
+pub mod store;
