@@ -4,4 +4,6 @@ pub mod entry;
 pub mod fault;
 pub mod key;
 pub mod keys;
+mod places;
 pub mod store;
+pub mod table;
