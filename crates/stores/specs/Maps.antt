@@ -74,6 +74,7 @@ look-small top (p ∷ ps) a q n e = go (taken p) e (look-small top ps (a .1) q n
     here : (b : Bool) → cond b (Some (count-at p)) (look (held ps) q) ≡ Some n → (look (held ps) q ≡ Some n → n ≤ top) → n ≤ top
     here true z ih = let s = some-some (count-at p) n z in let l = a .0 in omega arith
     here false z ih = ih z
+
     go : (b : Bool) → look (cond b ((row-at p, count-at p) ∷ held ps) (held ps)) q ≡ Some n → (look (held ps) q ≡ Some n → n ≤ top) → n ≤ top
     go true z ih = here (same (row-at p) q) z ih
     go false z ih = ih z

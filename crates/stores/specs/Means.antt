@@ -2,7 +2,7 @@
 use mathlib.Core.Path.{_≡_}
 use mathlib.Core.List.{List}
 use mathlib.Core.Bool.{Bool, false}
-use Prim.Native.Nat.{ℕ, _<_}
+use Prim.Native.Nat.{ℕ, _<_, _≤_}
 use Rattle.std.specs.Options.{isSome}
 use Rattle.std.specs.declared.option.Option.the-variants.{Some, None}
 use Rattle.std.specs.declared.result.Result.{Result}
@@ -20,6 +20,10 @@ count-of c = c .value
 
 abbrev pub row-of : Entry → List Cell
 row-of e = cells-of (e .key)
+
+-- a number of places that a store may have
+abbrev pub Allowed : ℕ → Type 0
+Allowed places = (1 ≤ places) × (places ≤ 4096)
 
 -- A put turns the map m, of so many rows, into m′: it replaces the row's count or adds the row, and is refused, and changes
 -- nothing, exactly for a new row when every place is taken.

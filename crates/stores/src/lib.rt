@@ -4,6 +4,7 @@ pub mod entry;
 pub mod fault;
 pub mod key;
 pub mod keys;
+pub mod length;
 mod places;
 pub mod store;
 pub mod table;

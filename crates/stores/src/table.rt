@@ -5,7 +5,10 @@ ghost use Prim.Native.Nat.{_<_, _≤_};
 ghost use lib.ListN.{length};
 ghost use denote.Ref.{now};
 ghost use Rattle.std.specs.Options.{Cases as BySome};
+ghost use Rattle.std.specs.Results.{Cases};
 ghost use Rattle.std.specs.shelf.Lists.{countBy};
+ghost use Rattle.stores.specs.declared.fault.StoreFault.the-variants.{Length};
+ghost use Rattle.stores.specs.Means.{Allowed};
 ghost use Rattle.stores.specs.Rows.{cells-of};
 ghost use Rattle.stores.specs.Places.{held, rows-in, look, taken, Apart, NoHit, AtHit, AtFree};
 ghost use Rattle.stores.specs.Maps.{listed-of, look-small};
@@ -16,7 +19,9 @@ use crate::entry::Record;
 use crate::entry::Size;
 use crate::fault::StoreFault;
 use crate::key::Key;
+use crate::length::check_places;
 use crate::places::count_in;
+use crate::places::free_all;
 use crate::places::free_place;
 use crate::places::place_of;
 use crate::places::used_places;
@@ -30,6 +35,17 @@ pub struct Table<'a> {
     ghost apart: { Apart (held (contents (now records))) },
     ghost some: { 1 ≤ length (now records) },
     ghost few: { length (now records) ≤ 4096 },
+}
+
+impl<'a> Table<'a> {
+    // An empty table over 1 to 4,096 records. The length is checked before any record is freed.
+    pub fn new(records: &'a mut [Record]) -> Result<Table<'a>, StoreFault>
+        ensures { λ r. ⌜ Cases r (λ t. (held (contents (now (t .records))) ≡ []) × (length (now (t .records)) ≡ length (now (records .entry)))) (λ f. (f ≡ Length) × (Allowed (length (now (records .entry))) → ⊥)) ⌝ }
+    {
+        check_places(records.len())?;
+        free_all(records);
+        Ok(Table { records })
+    }
 }
 
 impl Table<'_> {

@@ -18,8 +18,8 @@ returns-then-eq c =
     let h = c .loop-record-test .taken in
     let at = record-at rs i r h (c .record-item .is) None in
     sym (first-find (contents rs) q i None (within rs i r h (c .record-item .is)) (c .loop-record .inv)
-        (ap (λ p. hits p q) at ∙ hits-same r (c .in-Used .entry) q (c .in-Used .is) (c .eq .ensures .0 (c .if-eq .taken)))
-      ∙ ap (λ p. Some (count-at p)) (at ∙ ap place-of (c .in-Used .is)))
+    (ap (λ p. hits p q) at ∙ hits-same r (c .in-Used .entry) q (c .in-Used .is) (c .eq .ensures .0 (c .if-eq .taken)))
+    ∙ ap (λ p. Some (count-at p)) (at ∙ ap place-of (c .in-Used .is)))
 
 pub loop-record-again : need.loop-record-again
 loop-record-again c =

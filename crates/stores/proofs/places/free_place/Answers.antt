@@ -7,9 +7,10 @@ use Rattle.stores.proofs.Records.{free-at, count-yes, taken-all}
 use Rattle.stores.proofs.places.free_place.Needs as need
 
 pub returns-in-Free : need.returns-in-Free
-returns-in-Free c =
-    (c .loop-k-test .taken,
-    free-at (c .args .records .now) (c .loop-k .k) (c .index-records-k .result) (c .loop-k-test .taken) (c .index-records-k .is) (ap (λ r. taken (place-of r)) (c .in-Free .is)))
+returns-in-Free c = (
+  c .loop-k-test .taken,
+  free-at (c .args .records .now) (c .loop-k .k) (c .index-records-k .result) (c .loop-k-test .taken) (c .index-records-k .is) (ap (λ r. taken (place-of r)) (c .in-Free .is)),
+)
 
 pub loop-k-again : need.loop-k-again
 loop-k-again c =

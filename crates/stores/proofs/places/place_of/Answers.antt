@@ -9,10 +9,11 @@ use Rattle.stores.proofs.places.place_of.Needs.{in-Used·else-eq, in-rest}
 pub returns-then-eq : need.returns-then-eq
 returns-then-eq c =
     let q = cells-of (c .args .key .now) in
-    let r = c .index-records-k .result in
-    (c .loop-k-test .taken,
-    hit-at (c .args .records .now) (c .loop-k .k) r (c .loop-k-test .taken) (c .index-records-k .is) q
-    (hits-same r (c .in-Used .entry) q (c .in-Used .is) (c .eq .ensures .0 (c .if-eq .taken))))
+    let r = c .index-records-k .result in (
+      c .loop-k-test .taken,
+      hit-at (c .args .records .now) (c .loop-k .k) r (c .loop-k-test .taken) (c .index-records-k .is) q
+          (hits-same r (c .in-Used .entry) q (c .in-Used .is) (c .eq .ensures .0 (c .if-eq .taken))),
+    )
 
 pub loop-k-again : need.loop-k-again
 loop-k-again c =
