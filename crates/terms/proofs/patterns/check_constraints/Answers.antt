@@ -5,16 +5,16 @@ use Rattle.std.proofs.shelf.Lists.{take-all}
 use Rattle.std.proofs.shelf.Results.{err-from-errBy}
 use Rattle.terms.specs.Proper.{Constraints}
 use Rattle.terms.proofs.Firsts.{constraints-more, constraint-refused, condition-refused}
-use Rattle.terms.proofs.read.check_constraints.Needs as need
-use Rattle.terms.proofs.read.check_constraints.Needs.{then-place-ge8·by·then-place-ge8, then-place-ge8·by·else-place-ge8·then-constraint-ge8}
+use Rattle.terms.proofs.patterns.check_constraints.Needs as need
+use Rattle.terms.proofs.patterns.check_constraints.Needs.{then-place-ge-MOST·by·then-place-ge-MOST, then-place-ge-MOST·by·else-place-ge-MOST·then-constraint-ge-VARIABLES}
 
-pub returns-then-place-ge8 : need.returns-then-place-ge8
-returns-then-place-ge8 g c =
+pub returns-then-place-ge-MOST : need.returns-then-place-ge-MOST
+returns-then-place-ge-MOST g c =
     constraint-refused (g .K·Kind .means (c .args .kind .now)) (c .args .constraints .now) (c .loop-place .place) _ (c .loop-place-test .taken) (c .loop-place .inv)
-    (elim (c .then-place-ge8 .came) [
-        then-place-ge8·by·then-place-ge8 w ↦ inl (w .if-place-ge8 .taken)
-      | then-place-ge8·by·else-place-ge8·then-constraint-ge8 w ↦ inr (w .if-constraint-ge8 .taken)
-      ])
+    (elim (c .then-place-ge-MOST .came) [
+      | then-place-ge-MOST·by·then-place-ge-MOST w ↦ inl (w .if-place-ge-MOST .taken)
+      | then-place-ge-MOST·by·else-place-ge-MOST·then-constraint-ge-VARIABLES w ↦ inr (w .if-constraint-ge-VARIABLES .taken)
+    ])
 
 pub returns-in-Break-check-condition : need.returns-in-Break-check-condition
 returns-in-Break-check-condition g c =
@@ -22,12 +22,12 @@ returns-in-Break-check-condition g c =
     let q = c .in-Break-check-condition .ensures tt in
     rw (p .1, p .2, q .0)
     (condition-refused (g .K·Kind .means (c .args .kind .now)) (c .args .constraints .now) (c .loop-place .place) _ (c .loop-place-test .taken) (c .loop-place .inv)
-      (c .if-place-ge8 .left) (c .if-constraint-ge8 .left) (q .1))
+    (c .if-place-ge-MOST .left) (c .if-constraint-ge-VARIABLES .left) (q .1))
 
 pub loop-place-again : need.loop-place-again
 loop-place-again g c =
     constraints-more (g .K·Kind .means (c .args .kind .now)) (c .args .constraints .now) (c .loop-place .place) _ (c .loop-place-test .taken) (c .loop-place .inv)
-    (c .if-place-ge8 .left) (c .if-constraint-ge8 .left, c .in-Continue-check-condition .ensures tt)
+    (c .if-place-ge-MOST .left) (c .if-constraint-ge-VARIABLES .left, c .in-Continue-check-condition .ensures tt)
 
 pub returns : need.returns
 returns g c =

@@ -3,7 +3,7 @@ use native.Mathlib.Omega.{arith}
 use lib.ListN.{length, replicate}
 use Rattle.std.proofs.shelf.Lists.{length-replicate}
 use Rattle.terms.proofs.Firsts.{filled-more, filled-all}
-use Rattle.terms.proofs.read.filled.Needs as need
+use Rattle.terms.proofs.fill.filled.Needs as need
 
 pub loop-i-again : need.loop-i-again
 loop-i-again g c =

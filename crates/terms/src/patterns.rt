@@ -1,16 +1,15 @@
-// Signatures, rows and patterns from what a caller writes.
+// Patterns as a caller writes them.
 ghost use mathlib.Core.Path.{_≡_};
-ghost use mathlib.Core.List.{[], _++_};
-ghost use Prim.Native.Nat.{_-_, _≤_};
-ghost use lib.ListN.{length, replicate};
+ghost use mathlib.Core.List.{[]};
 ghost use Rattle.terms.specs.Fitting.{described, cells-of};
-ghost use Rattle.terms.specs.Reading.{Constraints-checked, Pattern-read, Row-read, Signature-read};
+ghost use Rattle.terms.specs.Reading.{Constraints-checked, Pattern-read};
 use crate::cell::BLANK;
 use crate::cell::Cell;
 use crate::constraint::Constraint;
 use crate::constraint::NO_CONSTRAINT;
 use crate::fault::PatternFault;
 use crate::fault::PatternFaultFromBank;
+use crate::fill::filled;
 use crate::pattern::Pattern;
 use crate::row::Row;
 use crate::scan::check_cells;
@@ -19,67 +18,22 @@ use crate::signature::Signature;
 use kinds::check;
 use kinds::kind::Kind;
 
-impl Signature {
-    // The arities of the 32 symbols; the first that is not allowed is refused.
-    pub fn new(arities: [u8; 32]) -> Result<Signature, PatternFault>
-        ensures { λ r. ⌜ Signature-read arities r ⌝ }
-    {
-        for (symbol, arity) in arities.iter().enumerate() {
-            let most = if symbol == 0 { 0 } else { 7 };
-            if *arity > most {
-                return Err(PatternFault::Arity { symbol });
-            }
-        }
-        Ok(Signature { arities })
-    }
-}
+// How many constraints there may be, and how many variables.
+const MOST: usize = 8;
+
+const VARIABLES: u32 = 8;
 
 // Whether there are at most eight constraints, each a known condition on a variable; else the first fault.
 pub fn check_constraints<K: Kind>(kind: &K, constraints: &[Constraint]) -> Result<(), PatternFault>
     ensures { λ r. ⌜ Constraints-checked (K·Kind .means (now (kind .entry))) (now (constraints .entry)) r ⌝ }
 {
     for (place, constraint) in constraints.iter().enumerate() {
-        if place >= 8 || constraint.variable >= 8 {
+        if place >= MOST || constraint.variable >= VARIABLES {
             return Err(PatternFault::Constraint { place });
         }
         check::check_condition(kind, constraint.condition, place)?;
     }
     Ok(())
-}
-
-// The items, and blanks after them.
-fn filled<T: Copy, const N: usize>(items: &[T], blank: T) -> [T; N]
-    requires { ⌜ length (now items) ≤ N ⌝ }
-    ensures { λ r. ⌜ r ≡ now (items .entry) ++ replicate (N - length (now (items .entry))) blank ⌝ }
-{
-    let mut all = [blank; N];
-    for (i, item) in items.iter().enumerate() {
-        all[i] = *item;
-    }
-    all
-}
-
-impl Row {
-    // The cells of a row, where they are one.
-    pub fn read<K: Kind>(
-        signature: &Signature,
-        kind: &K,
-        cells: &[Cell],
-    ) -> Result<Row, PatternFault>
-        ensures { λ r. ⌜ Row-read (now (signature .entry) .arities) (K·Kind .means (now (kind .entry))) (now (cells .entry)) r ⌝ }
-    {
-        check_cells(signature, kind, Shape::Row, cells)?;
-        Ok(Row {
-            cells: filled(cells, BLANK),
-            len: cells.len(),
-        })
-    }
-
-    pub fn cells(&self) -> &[Cell]
-        ensures { λ r. ⌜ now r ≡ cells-of (now (self .entry)) ⌝ }
-    {
-        &self.cells[0..self.len]
-    }
 }
 
 impl Pattern {

@@ -1,7 +1,7 @@
 use mathlib.Core.Path.{_≡_, subst₂}
 use Rattle.std.specs.Orderings.{Decides}
 use Rattle.std.proofs.shelf.Equals.{matches-decides}
-use Rattle.terms.proofs.equal.RowPartialEq.eq.Needs as need
+use Rattle.terms.proofs.rows.RowPartialEq.eq.Needs as need
 
 pub returns : need.returns
 returns c =
