@@ -1,0 +1,4 @@
+mod Slots
+mod Cutting
+mod Decoding
+mod Decided
