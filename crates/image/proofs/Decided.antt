@@ -11,7 +11,7 @@ use Rattle.std.specs.Orderings.{When}
 use Rattle.std.specs.declared.option.Option.{Option}
 use Rattle.std.specs.declared.option.Option.the-variants.{Some, None}
 use Rattle.std.specs.shelf.Lists.{All}
-use Rattle.std.proofs.shelf.Lists.{nil-from-length, length-take-le}
+use Rattle.std.proofs.shelf.Lists.{nil-from-length}
 use Rattle.std.proofs.shelf.Tests.{cases-lt}
 use Rattle.refusals.specs.Places.{First-fault}
 use Rattle.kinds.specs.Meaning.{Meaning, Sound, Value, Under}
@@ -25,6 +25,7 @@ use Rattle.columns.specs.Columns.{blank, columns, Short}
 use Rattle.columns.proofs.Numbers.{columns-below}
 use Rattle.stores.specs.declared.key.Key.{Key}
 use Rattle.stores.specs.Rows.{Storable, cells-of}
+use Rattle.stores.proofs.Laying.{storable-key}
 use Rattle.image.specs.Lines.{Small, Blanks, Marked, Scanned, shown, blank-line}
 use Rattle.image.specs.Texts.{Proper, Bad-field}
 use Rattle.image.proofs.Decoding.{first-bad, bad-cell, bad-mark, bad-tail, bad-end, good, blank-wrong, count-wrong, large-wrong, tail-seven}
@@ -49,13 +50,7 @@ module _ (M : Meaning) (sound : Sound M) where
   row-storable sig (c ∷ cs) r = record { some = omega arith; few = r .few; short = all-fine (c ∷ cs) (r .term .fine) }
 
 pub key-some : (k : Key) (cs : List Cell) → cells-of k ≡ cs → 0 < length cs
-key-some k cs e =
-    let f = k .few in
-    let l = k .long in
-    let s = k .some in
-    let n : length (cells-of k) ≡ k .len = length-take-le (k .len) (k .cells) (omega arith) in
-    let m = ap length e in
-    omega arith
+key-some k cs e = subst Storable e (storable-key k) .some
 
 -- the place that a cell's fault names
 same-place : (i r : ℕ) → _≡_ {A = Option ℕ} (Some i) (Some r) → i ≡ r

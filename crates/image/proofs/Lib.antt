@@ -2,3 +2,6 @@ mod Slots
 mod Cutting
 mod Decoding
 mod Decided
+mod Meanings
+mod Parts
+mod Changing

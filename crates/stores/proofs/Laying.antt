@@ -12,7 +12,8 @@ use Rattle.std.proofs.shelf.Elements.{all-take, all-getD}
 use Rattle.std.proofs.shelf.Tests.{and-parts, and-from, lt-ltb, ltb-true}
 use Rattle.terms.specs.declared.cell.Cell.{Cell}
 use Rattle.stores.specs.Short.{all-short}
-use Rattle.stores.specs.Rows.{Storable}
+use Rattle.stores.specs.declared.key.Key.{Key}
+use Rattle.stores.specs.Rows.{Storable, cells-of}
 
 short-all : (cs : List Cell) → all-short cs ≡ true → All (λ c. c .number < 10 ^ 9) cs
 short-all [] e = tt
@@ -52,6 +53,9 @@ pub key-storable : (all : List Cell) (n : ℕ) → length all ≡ 12 → 0 < n �
 key-storable all n l some few s =
     let m : length (take n all) ≡ n = length-take-le n all (omega arith) in
     record { some = omega arith; few = omega arith; short = all-take (λ c. c .number < 10 ^ 9) n all (short-all all s) }
+
+pub storable-key : (k : Key) → Storable (cells-of k)
+storable-key k = key-storable (k .cells) (k .len) (k .long) (k .some) (k .few) (k .short)
 
 pub too-long : (cs : List Cell) (i : ℕ) (d : Cell) → i < length cs → 999999999 < getD cs i d .number → Storable cs → ⊥
 too-long cs i d h l s = let a = all-getD (λ x. x .number < 10 ^ 9) cs i d h (s .short) in omega arith

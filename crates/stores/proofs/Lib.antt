@@ -1,4 +1,4 @@
-mod Laying
+pub mod Laying
 mod Records
 mod Changes
 pub mod Writes
