@@ -2,3 +2,4 @@ pub mod Lines
 pub mod Texts
 pub mod Meaning
 pub mod Change
+pub mod Tested

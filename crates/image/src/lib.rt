@@ -4,5 +4,7 @@ mod change;
 mod decode;
 mod encode;
 mod fields;
+pub mod image;
 mod lines;
+mod memory;
 mod scan;

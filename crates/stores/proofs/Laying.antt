@@ -15,9 +15,13 @@ use Rattle.stores.specs.Short.{all-short}
 use Rattle.stores.specs.declared.key.Key.{Key}
 use Rattle.stores.specs.Rows.{Storable, cells-of}
 
-short-all : (cs : List Cell) → all-short cs ≡ true → All (λ c. c .number < 10 ^ 9) cs
+pub short-all : (cs : List Cell) → all-short cs ≡ true → All (λ c. c .number < 10 ^ 9) cs
 short-all [] e = tt
 short-all (c ∷ cs) e = let p = and-parts (ltb (c .number) 1000000000) (all-short cs) e in (ltb-true (c .number) 1000000000 (p .0), short-all cs (p .1))
+
+pub short-from : (cs : List Cell) → All (λ c. c .number < 10 ^ 9) cs → all-short cs ≡ true
+short-from [] a = refl
+short-from (c ∷ cs) a = and-from _ _ (lt-ltb (c .number) 1000000000 (a .0)) (short-from cs (a .1))
 
 short-set : (cs : List Cell) (i : ℕ) (c : Cell) → all-short cs ≡ true → c .number < 10 ^ 9 → all-short (set cs i c) ≡ true
 short-set [] i c e h = e
