@@ -6,7 +6,8 @@ use native.Mathlib.Omega.{arith}
 use lib.ListN.{length, replicate, take, drop}
 use lib.Seq.{take-add, take-nil}
 use Rattle.std.proofs.shelf.Lists.{take-take, drop-take}
-use Rattle.image.specs.Texts.{widths, cut, fields}
+use Rattle.terms.specs.declared.cell.Cell.{Cell}
+use Rattle.image.specs.Texts.{widths, cut, fields, Bad-field}
 
 -- how many bytes the first f parts have
 abbrev upto : List ℕ → ℕ → ℕ
@@ -64,3 +65,7 @@ fields-from s t f e = take-cut widths s f ∙ ap (cut (take f widths)) e ∙ sym
 pub fields-to : (s t : List ℕ) (f : ℕ) → take f (fields s) ≡ take f (fields t) → take (reach f) s ≡ take (reach f) t
 unfolding reach fields
 fields-to s t f e = sym (join-cut widths s f) ∙ ap joined e ∙ join-cut widths t f
+
+-- a bad field is one of the fourteen
+pub bad-within : (Row : List Cell → Type 0) (s : List ℕ) (f : ℕ) → Bad-field Row s f → f ≤ 14
+bad-within Row s f b = let w = b .within in let l = fields-length s in omega arith

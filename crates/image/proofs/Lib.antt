@@ -5,3 +5,4 @@ mod Decided
 mod Meanings
 mod Parts
 mod Changing
+mod Opening

@@ -3,3 +3,5 @@ pub mod Texts
 pub mod Meaning
 pub mod Change
 pub mod Tested
+pub mod Faults
+pub mod Open
