@@ -43,11 +43,11 @@ below : (Row : List Cell → Type 0) (fit : (cs : List Cell) → Row cs → Stor
 below Row fit cs p few bad =
     ⊎-elim (λ h. h)
     (λ h.
-        let w = bad .within in
-        let b = bad .before in
-        let l = fit (b .0) (b .1) .few in
-        let same : b .0 ≡ cs = sym (take-all p (b .0) (omega arith)) ∙ b .2 ∙ take-all p cs (omega arith) in
-        absurd (bad .here (b .0) (b .1) (ap (take (p + 1)) same)))
+    let w = bad .within in
+    let b = bad .before in
+    let l = fit (b .0) (b .1) .few in
+    let same : b .0 ≡ cs = sym (take-all p (b .0) (omega arith)) ∙ b .2 ∙ take-all p cs (omega arith) in
+    absurd (bad .here (b .0) (b .1) (ap (take (p + 1)) same)))
     (cases-lt p 12)
 
 abbrev pub tail-in : Place → List ℕ
@@ -125,9 +125,14 @@ module _ (Row : List Cell → Type 0) (fit : (cs : List Cell) → Row cs → Sto
         let r′ = reach-cell (p + 1) (omega arith) in
         record {
           within = omega arith;
-          before = (e, (pe,
+          before = (
+            e,
+            (
+              pe,
               subst (λ n. take n (text e) ≡ take n line) (sym r)
-              (text-front e pe p (omega arith) ∙ slots-from-take p (b .0) cs (b .2) ∙ sym (slots-front (length cs) p cs (scan .small) (bad .within)) ∙ ap (take (p * 10)) (sym (scan .front)) ∙ front-less p (length cs) line (bad .within))));
+                  (text-front e pe p (omega arith) ∙ slots-from-take p (b .0) cs (b .2) ∙ sym (slots-front (length cs) p cs (scan .small) (bad .within)) ∙ ap (take (p * 10)) (sym (scan .front)) ∙ front-less p (length cs) line (bad .within)),
+            ),
+          );
           here = λ x px q. clash x px (subst (λ n. take n (text x) ≡ take n line) r′ q);
         }
       where
@@ -155,7 +160,7 @@ module _ (Row : List Cell → Type 0) (fit : (cs : List Cell) → Row cs → Sto
                 let q : take ((f + 1) * 10) (text x) ≡ take ((f + 1) * 10) line = subst (λ n. take n (text x) ≡ take n line) r′ q₀ in
                 let same = L2 x px (f + 1) (omega arith) (omega arith) q in
                 let both : slots f cs ++ slot-text (nth cs f) ≡ slots f cs ++ field f line =
-                    sym (slots-more f cs) ∙ ap (slots (f + 1)) (sym same) ∙ sym (text-front x px (f + 1) (omega arith)) ∙ q ∙ front-more f line ∙ ap (λ t. t ++ field f line) front in
+                sym (slots-more f cs) ∙ ap (slots (f + 1)) (sym same) ∙ sym (text-front x px (f + 1) (omega arith)) ∙ q ∙ front-more f line ∙ ap (λ t. t ++ field f line) front in
                 let s = split (slots f cs) (slot-text (nth cs f)) (slots f cs) (field f line) refl both in
                 m .here (sym (s .1) ∙ ap slot-text (nth-past cs f a));
           }

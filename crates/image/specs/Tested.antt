@@ -68,9 +68,9 @@ entries-small xs e =
     let l = length-map-counting (λ k. meaning (line k xs)) 0 (lines-in xs) in
     all-from-getD (λ p. count-at p ≤ 999999) (entries xs) None
     (λ j h.
-        let b : j < lines-in xs = omega arith in
-        subst (λ p. count-at p ≤ 999999) (sym (getD-map-counting (λ i. meaning (line i xs)) 0 (lines-in xs) j j None b (omega arith)))
-        (count-small (meaning (line j xs)) (shows-tested (lines-in xs) xs e j b .good)))
+    let b : j < lines-in xs = omega arith in
+    subst (λ p. count-at p ≤ 999999) (sym (getD-map-counting (λ i. meaning (line i xs)) 0 (lines-in xs) j j None b (omega arith)))
+    (count-small (meaning (line j xs)) (shows-tested (lines-in xs) xs e j b .good)))
 
 -- there are no more rows than lines
 pub entries-room : (xs : List ℕ) → length (rows-in (held (entries xs))) ≤ lines-in xs

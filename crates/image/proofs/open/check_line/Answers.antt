@@ -62,6 +62,6 @@ returns-in-Some-place-of g c =
     let sig = c .args .signature .now .arities in
     let e = at-variant (Row-cells sig M) _ (c .in-Ok .shown) (Some (c .in-Some .-entry)) (c .in-Some .is) (c .in-Ok .ensures tt) in
     let a = again (Row-cells sig M) (row-storable M (g .K·Kind·met .sound (c .args .kind .now)) sig) xs k (c .pre .before)
-          (holding-of (c .in-Some .-entry)) (e .0) (sym (line-is k ((k * 128 + 128) - k * 128) xs (omega arith)) ∙ e .1)
-          _ (line-part k ((k * 128 + 120) - k * 128) 120 xs (omega arith) (omega arith)) (c .in-Some-place-of .field-0) (c .in-Some-place-of .ensures tt) in
+    (holding-of (c .in-Some .-entry)) (e .0) (sym (line-is k ((k * 128 + 128) - k * 128) xs (omega arith)) ∙ e .1)
+    _ (line-part k ((k * 128 + 120) - k * 128) 120 xs (omega arith) (omega arith)) (c .in-Some-place-of .field-0) (c .in-Some-place-of .ensures tt) in
     inr (refl, a .0, a .1)
