@@ -24,6 +24,13 @@ impl Roll {
         Roll { len: 0 }
     }
 
+    // How many entries there are.
+    pub fn len(&self) -> usize
+        ensures { λ r. ⌜ r ≡ now (self .entry) .len ⌝ }
+    {
+        self.len
+    }
+
     // The entries, in order of arrival.
     pub fn entries<'a, E>(&self, memory: &'a [E]) -> &'a [E]
         requires { ⌜ now self .len ≤ length (now memory) ⌝ }
