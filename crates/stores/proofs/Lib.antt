@@ -1,0 +1,5 @@
+mod Laying
+mod Records
+mod Changes
+pub mod Writes
+pub mod Puts
