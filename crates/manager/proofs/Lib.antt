@@ -1,0 +1,3 @@
+mod Sounds
+mod Moved
+mod Going

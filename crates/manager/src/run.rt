@@ -1,0 +1,98 @@
+// Calls as they come from outside, over a new manager.
+ghost use mathlib.Core.Path.{_≡_};
+ghost use Rattle.manager.specs.Words.{language};
+ghost use Rattle.manager.specs.Book.{Fixed, Well, book-of};
+ghost use Rattle.manager.specs.Checks.{Answers};
+ghost use Rattle.manager.specs.Calls.{Made, Run-made, Steps, asked-by, new-checks, number, says};
+ghost use Rattle.serial.specs.History.{Call.begin as asks-begin, Call.abandon as asks-abandon};
+use crate::call::Answer;
+use crate::call::Call;
+use crate::check::check_sizes;
+use crate::fault::ManagerFault;
+use crate::fault::ManagerFaultFromPattern;
+use crate::fault::ManagerFaultFromStore;
+use crate::memory::Memory;
+use crate::state::Manager;
+use kinds::kind::Kind;
+use rolls::roll::Roll;
+use stores::store::Store;
+use terms::signature::Signature;
+
+impl<K: Kind + Drop> Manager<K> {
+    // A manager with empty rolls, over memory of their sizes.
+    pub fn new(kind: K, arities: [u8; 32], memory: &Memory) -> Result<Manager<K>, ManagerFault>
+        ensures answers { λ r. ⌜ Answers (new-checks (now (memory .entry)) arities) (Made kind arities (now (memory .entry))) (λ _. Unit {0}) r ⌝ }
+    {
+        check_sizes(memory)?;
+        let signature = Signature::new(arities)?;
+        Ok(Manager {
+            kind,
+            signature,
+            transactions: Roll::new(),
+            reservations: Roll::new(),
+            changes: Roll::new(),
+            last_transaction: 0,
+            last_reservation: 0,
+            last_commit: 0,
+            tally: 0,
+        })
+    }
+}
+
+impl<K: Kind> Manager<K> {
+    fn answer_begin(&mut self, memory: &mut Memory, planner: u32) -> Answer
+        requires { ⌜ Well means (now self) (now memory) ⌝ }
+        ensures steps { λ a. ⌜ ((m : _) → Steps (language (now (self .entry) .signature .arities) (means (now (self .entry) .kind))) (book-of (now (self .entry)) (now (memory .entry))) (book-of (now (self .exit)) (now (memory .exit))) m m (asks-begin planner) (says a)) ⌝ }
+        ensures well { λ _. ⌜ Well means (now (self .exit)) (now (memory .exit)) ⌝ }
+        ensures fixed { λ _. ⌜ Fixed (now (self .entry)) (now (self .exit)) ⌝ }
+    {
+        match self.begin(memory, planner) {
+            Ok(number) => Answer::Number(number),
+            Err(fault) => Answer::Refused(fault),
+        }
+    }
+
+    fn answer_abandon(&mut self, memory: &mut Memory, transaction: u32) -> Answer
+        requires { ⌜ Well means (now self) (now memory) ⌝ }
+        ensures steps { λ a. ⌜ ((m : _) → Steps (language (now (self .entry) .signature .arities) (means (now (self .entry) .kind))) (book-of (now (self .entry)) (now (memory .entry))) (book-of (now (self .exit)) (now (memory .exit))) m m (asks-abandon transaction) (says a)) ⌝ }
+        ensures well { λ _. ⌜ Well means (now (self .exit)) (now (memory .exit)) ⌝ }
+        ensures fixed { λ _. ⌜ Fixed (now (self .entry)) (now (self .exit)) ⌝ }
+    {
+        match self.abandon(memory, transaction) {
+            Ok(number) => Answer::Number(number),
+            Err(fault) => Answer::Refused(fault),
+        }
+    }
+
+    // One call, answered.
+    fn answer_call<S: Store>(&mut self, memory: &mut Memory, store: &mut S, call: &Call) -> Answer
+        requires { ⌜ Well (K·Kind .means) (now self) (now memory) ⌝ }
+        ensures steps { λ a. ⌜ Steps (language (now (self .entry) .signature .arities) (K·Kind .means (now (self .entry) .kind))) (book-of (now (self .entry)) (now (memory .entry))) (book-of (now (self .exit)) (now (memory .exit))) (S·Store .means (now (store .entry))) (S·Store .means (now (store .exit))) (asked-by (now (call .entry))) (says a) ⌝ }
+        ensures well { λ _. ⌜ Well (K·Kind .means) (now (self .exit)) (now (memory .exit)) ⌝ }
+        ensures fixed { λ _. ⌜ Fixed (now (self .entry)) (now (self .exit)) ⌝ }
+    {
+        match call {
+            Call::Begin { planner } => self.answer_begin(memory, *planner),
+            Call::Abandon { transaction } => self.answer_abandon(memory, *transaction),
+        }
+    }
+}
+
+// The calls in order, each answered, over a new manager; as many as there are answers. How many were answered.
+pub fn run<K: Kind + Drop, S: Store>(
+    kind: K,
+    arities: [u8; 32],
+    memory: &mut Memory,
+    store: &mut S,
+    calls: &[Call],
+    answers: &mut [Answer],
+) -> Result<usize, ManagerFault>
+    ensures { λ r. ⌜ Run-made (K·Kind .means) kind arities (now (memory .entry)) (now (calls .entry)) (now (answers .entry)) (now (answers .exit)) (S·Store .means (now (store .entry))) (S·Store .means (now (store .exit))) r ⌝ }
+{
+    let mut manager = Manager::new(kind, arities, memory)?;
+    let n = calls.len().min(answers.len());
+    for i in 0..n {
+        answers[i] = manager.answer_call(memory, store, &calls[i]);
+    }
+    Ok(n)
+}
