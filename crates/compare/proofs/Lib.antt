@@ -1,0 +1,5 @@
+mod Readings
+mod Gathers
+mod Values
+mod Drawing
+mod Findings
