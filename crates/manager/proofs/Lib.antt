@@ -1,3 +1,6 @@
 mod Sounds
 mod Moved
 mod Going
+mod Passes
+mod Opens
+mod Reserves

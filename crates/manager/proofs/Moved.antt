@@ -1,24 +1,30 @@
 -- What each call's contract says is a step of the machine of the serial order.
 use mathlib.Core.Path.{_≡_, refl, sym, _∙_, ap, subst}
+use mathlib.Core.Logic.{_⊎_, inl, inr, ⊎-elim}
 use mathlib.Core.Bool.{not}
 use mathlib.Core.List.{List, [], _∷_, _++_, map}
 use Prim.Native.Nat.{ℕ}
 use lib.Dec.{eqb}
 use Rattle.std.proofs.shelf.Lists.{map-append}
 use Rattle.maps.specs.Maps.{Map, Same, In}
-use Rattle.maps.proofs.Lists.{map-in, map-kept}
+use Rattle.maps.proofs.Lists.{in-map, map-in, map-kept}
+use Rattle.kinds.specs.Meaning.{Meaning}
 use Rattle.terms.specs.declared.cell.Cell.{Cell}
 use Rattle.terms.specs.Fitting.{Description}
 use Rattle.rolls.specs.Rolls.{Has}
 use Rattle.serial.specs.Language.{Language}
 use Rattle.serial.specs.History as words
-use Rattle.serial.specs.History.{Event.refused, Event.began, Event.abandoned}
-use Rattle.serial.specs.Machine.{Alike, gone}
+use Rattle.serial.specs.History.{Event.refused, Event.began, Event.reserved, Event.committed, Event.abandoned}
+use Rattle.serial.specs.Rights.{letter-of}
+use Rattle.serial.specs.Machine.{Alike, gone, seen}
 use Rattle.manager.specs.declared.fault.ManagerFault.{ManagerFault}
 use Rattle.manager.specs.Faults.{manager-refusal}
-use Rattle.manager.specs.Words.{grant-of, pending-of}
+use Rattle.manager.specs.declared.entry.Reservation.{Reservation}
+use Rattle.manager.specs.declared.fault.ManagerFault.the-variants.{Pattern, Store, Planner, TransactionsFull, NumbersSpent, NotOpen, Right, ReservationsFull, NoneFits, NotOwn, Count, NoneWrites, ChangesFull, Conflict}
+use Rattle.manager.specs.Words.{language, grant-of, pending-of, right-of}
 use Rattle.manager.specs.Book.{Book, state-of}
-use Rattle.manager.specs.Ending.{Begun, Abandoned, ended}
+use Rattle.manager.specs.Ending.{Begun, Abandoned, Committed, ended}
+use Rattle.manager.specs.Reserving.{Clear, Reserved, Conflicted, by-conflict, tallied}
 use Rattle.manager.specs.Calls.{Steps, refused-with, number}
 
 module _ (L : Language (List Cell) Description) (b b′ : Book) where
@@ -72,3 +78,77 @@ module _ (L : Language (List Cell) Description) (b b′ : Book) where
   pub abandon-steps : (m : Map (List Cell)) (t n : ℕ) → Has (λ e. e .number) t (b .transactions) → Abandoned t b b′ n → Steps L b b′ m m (words.Call.abandon t) (number n)
   abandon-steps m t n o e =
       record { event = abandoned t n; call = refl; reply = refl; moves = (opened t o, left t (b .last-commit) m m m (e .book) (λ r. refl)) }
+
+  -- a conflict changes nothing but the tally
+  pub conflict-steps : (m : Map (List Cell)) (c : words.Call (List Cell) Description) (f : ManagerFault) → b′ ≡ tallied b → Steps L b b′ m m c (refused-with (manager-refusal f .number))
+  conflict-steps m c f e = record {
+    event = refused c (manager-refusal f .number);
+    call = refl;
+    reply = refl;
+    moves = (tt, record {
+      opens = ap (λ x. map (λ t. t .number) (x .transactions)) e;
+      held = ap (λ x. map grant-of (x .reservations)) e;
+      pending = ap (λ x. map pending-of (x .changes)) e;
+      lastTransaction = ap (λ x. x .last-transaction) e;
+      lastReservation = ap (λ x. x .last-reservation) e;
+      lastCommit = ap (λ x. x .last-commit) e;
+      store = λ r. refl;
+    });
+  }
+
+by-cases : (C : ℕ → ℕ → Type 0) (P : Type 0) (f : ManagerFault) → by-conflict C P f → ((t : ℕ) × ((n : ℕ) × C t n)) ⊎ P
+by-cases C P (Conflict t n) x = inl (t, (n, x))
+by-cases C P (Pattern f) x = inr x
+by-cases C P (Store f) x = inr x
+by-cases C P Planner x = inr x
+by-cases C P TransactionsFull x = inr x
+by-cases C P NumbersSpent x = inr x
+by-cases C P NotOpen x = inr x
+by-cases C P Right x = inr x
+by-cases C P ReservationsFull x = inr x
+by-cases C P NoneFits x = inr x
+by-cases C P NotOwn x = inr x
+by-cases C P Count x = inr x
+by-cases C P NoneWrites x = inr x
+by-cases C P ChangesFull x = inr x
+
+module _ (sig : List ℕ) (M : Meaning) (b b′ : Book) (t : ℕ) where
+  pub commit-steps : (m m′ : Map (List Cell)) (n : ℕ) → Has (λ e. e .number) t (b .transactions) → Committed t b b′ m m′ n → Steps (language sig M) b b′ m m′ (words.Call.commit t) (number n)
+  commit-steps m m′ n o e = record {
+    event = committed t n;
+    call = refl;
+    reply = refl;
+    moves = ((opened (language sig M) b b′ t o, e .next), left (language sig M) b b′ t n m m′ (seen (language sig M) (state-of b m) t) (e .book) (e .store));
+  }
+
+module _ (sig : List ℕ) (M : Meaning) (b b′ : Book) (t letter : ℕ) (p : Description) where
+  pub reserve-steps : (m : Map (List Cell)) (n : ℕ) → Has (λ e. e .number) t (b .transactions) → Clear sig M t letter p (b .reservations) → Reserved t letter p b b′ n
+      → Steps (language sig M) b b′ m m (words.Call.reserve t letter p) (number n)
+  reserve-steps m n o free e =
+      let w = right-of (e .entry .right) in
+      record {
+        event = reserved t w p n;
+        call = ap (λ l. words.Call.reserve t l p) (sym (e .right));
+        reply = refl;
+        moves = ((opened (language sig M) b b′ t o, e .next, (λ g i c. let x = in-map grant-of (b .reservations) g i in
+            free w (e .right) (x .0) (x .1) (subst (λ h. Rattle.serial.specs.Serial.Collide (language sig M) h (record { owner = t; right = w; pattern = p; number = n })) (x .2) c))), record {
+          opens = ap (λ x. map (λ t. t .number) (x .transactions)) (e .book);
+          held = ap (λ x. map grant-of (x .reservations)) (e .book) ∙ map-append grant-of (b .reservations) (e .entry ∷ []) ∙ ap (λ g. map grant-of (b .reservations) ++ (g ∷ [])) entry-is;
+          pending = ap (λ x. map pending-of (x .changes)) (e .book);
+          lastTransaction = ap (λ x. x .last-transaction) (e .book);
+          lastReservation = ap (λ x. x .last-reservation) (e .book);
+          lastCommit = ap (λ x. x .last-commit) (e .book);
+          store = λ r. refl;
+        });
+      }
+    where
+      entry-is : grant-of (e .entry) ≡ record { owner = t; right = right-of (e .entry .right); pattern = p; number = n }
+      entry-is = ap (λ u. record { owner = u; right = right-of (e .entry .right); pattern = Rattle.terms.specs.Fitting.described (e .entry .pattern); number = e .entry .number }) (e .owner)
+          ∙ ap (λ u. record { owner = t; right = right-of (e .entry .right); pattern = u; number = e .entry .number }) (e .pattern)
+          ∙ ap (λ u. record { owner = t; right = right-of (e .entry .right); pattern = p; number = u }) (e .numbered)
+
+  pub reserve-refused : (m : Map (List Cell)) (buffer buffer′ : Rattle.compare.specs.declared.sample.Sample.Sample) (f : ManagerFault)
+      → by-conflict (Conflicted sig M p b b′ buffer′) ((b′ ≡ b) × (buffer′ ≡ buffer)) f → Steps (language sig M) b b′ m m (words.Call.reserve t letter p) (refused-with (manager-refusal f .number))
+  reserve-refused m buffer buffer′ f x =
+      ⊎-elim (λ c. conflict-steps (language sig M) b b′ m (words.Call.reserve t letter p) f (c .1 .1 .book)) (λ s. refused-steps (language sig M) b b′ m m (words.Call.reserve t letter p) f (s .0) (λ r. refl))
+      (by-cases (Conflicted sig M p b b′ buffer′) ((b′ ≡ b) × (buffer′ ≡ buffer)) f x)

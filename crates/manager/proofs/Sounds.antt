@@ -23,7 +23,10 @@ use Rattle.manager.specs.declared.entry.Reservation.{Reservation}
 use Rattle.manager.specs.declared.entry.PendingChange.{PendingChange}
 use Rattle.manager.specs.Words.{pending-of}
 use Rattle.manager.specs.Book.{Book, Given, Sound}
+use Rattle.terms.specs.Fitting.{described}
+use Rattle.terms.specs.Proper.{Proper-pattern}
 use Rattle.manager.specs.Ending.{Begun, ended}
+use Rattle.manager.specs.Reserving.{Reserved, tallied}
 
 -- where there is a place, a push is not refused
 pub pushed-there : {E : Type 0} (n : ℕ) (memory : List E) (n′ : ℕ) (memory′ : List E) (e : E) (r : Result (Unit {0}) Full) → n < length memory
@@ -67,6 +70,24 @@ module _ (sig : List ℕ) (M : Meaning) (b b′ : Book) (sound : Sound sig M b) 
           (subst (λ ns. Given (suc l) ns) (sym (map-append (λ t. t .number) (b .transactions) (record { number = suc l; planner = planner } ∷ []))) (given-push l (map (λ t. t .number) (b .transactions)) (sound .transactions))) in
       subst (Sound sig M) (sym (e .book))
       (record { transactions = given; reservations = sound .reservations; keys = sound .keys; patterns = sound .patterns; rows = sound .rows })
+
+  pub sound-reserved : (t letter n : ℕ) (p : Rattle.terms.specs.Fitting.Description) → Proper-pattern sig M p → Reserved t letter p b b′ n → Sound sig M b′
+  sound-reserved t letter n p proper e =
+      let l = b .last-reservation in
+      let given : Given n (map (λ r. r .number) (b .reservations ++ (e .entry ∷ []))) =
+          subst (λ ns. Given n ns) (sym (map-append (λ r. r .number) (b .reservations) (e .entry ∷ [])))
+          (subst (λ k. Given n (map (λ r. r .number) (b .reservations) ++ (k ∷ []))) (sym (e .numbered))
+          (subst (λ k. Given k (map (λ r. r .number) (b .reservations) ++ (k ∷ []))) (sym (e .next)) (given-push l (map (λ r. r .number) (b .reservations)) (sound .reservations)))) in
+      subst (Sound sig M) (sym (e .book)) (record {
+        transactions = sound .transactions;
+        reservations = given;
+        keys = sound .keys;
+        patterns = λ r i. ⊎-elim (sound .patterns r) (λ z. subst (λ y. Proper-pattern sig M (described (y .pattern))) (sym z) (subst (Proper-pattern sig M) (sym (e .pattern)) proper)) (in-push (b .reservations) (e .entry) r i);
+        rows = sound .rows;
+      })
+
+  pub sound-tallied : b′ ≡ tallied b → Sound sig M b′
+  sound-tallied e = subst (Sound sig M) (sym e) (record { transactions = sound .transactions; reservations = sound .reservations; keys = sound .keys; patterns = sound .patterns; rows = sound .rows })
 
   pub sound-ended : (t k : ℕ) → b′ ≡ ended t k b → Sound sig M b′
   sound-ended t k e =

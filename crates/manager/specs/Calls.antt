@@ -3,6 +3,7 @@ use mathlib.Core.Path.{_≡_}
 use mathlib.Core.Logic.{_⊎_}
 use mathlib.Core.List.{List, [], _∷_, map, reverse}
 use Prim.Native.Nat.{ℕ, min}
+use denote.Ref.{now}
 use lib.ListN.{length, take}
 use Rattle.std.specs.declared.option.Option.{Option}
 use Rattle.std.specs.declared.result.Result.{Result}
@@ -14,6 +15,7 @@ use Rattle.terms.specs.declared.cell.Cell.{Cell}
 use Rattle.terms.specs.declared.fault.PatternFault.the-variants.{Arity}
 use Rattle.terms.specs.Fitting.{Description}
 use Rattle.terms.specs.Proper.{Arities}
+use Rattle.compare.specs.declared.sample.Sample.{Sample}
 use Rattle.serial.specs.Language.{Language}
 use Rattle.serial.specs.Rights.{Change.written, Change.struck}
 use Rattle.serial.specs.History as words
@@ -23,7 +25,7 @@ use Rattle.serial.specs.History.{Deed.looked, Deed.surveyed, Deed.changed}
 use Rattle.serial.specs.Machine.{Moves}
 use Rattle.serial.specs.Serial.{Serial}
 use Rattle.manager.specs.declared.call.Call.{Call}
-use Rattle.manager.specs.declared.call.Call.the-variants.{Begin, Abandon}
+use Rattle.manager.specs.declared.call.Call.the-variants.{Begin, Reserve, Commit, Abandon}
 use Rattle.manager.specs.declared.call.Answer.{Answer}
 use Rattle.manager.specs.declared.call.Answer.the-variants.{Refused, Number}
 use Rattle.manager.specs.declared.fault.ManagerFault.{ManagerFault}
@@ -39,6 +41,8 @@ use Rattle.manager.specs.Ending.{sizes}
 -- what is asked; a row or a pattern is the raw list that the caller wrote
 abbrev pub asked-by : Call → words.Call (List Cell) Description
 asked-by (Begin planner) = words.Call.begin planner
+asked-by (Reserve t letter cells constraints) = words.Call.reserve t letter (record { cells = now cells; constraints = now constraints })
+asked-by (Commit t) = words.Call.commit t
 asked-by (Abandon t) = words.Call.abandon t
 
 -- what a caller is told
@@ -90,9 +94,9 @@ pub record Ran (L : Language (List Cell) Description) (cs : List Call) (rs : Lis
   pub answers : map told history ≡ reverse (map says rs)
   pub serial : Serial L first history last
 
--- a run over a new manager: as many calls as there are answers are made
-abbrev pub Run-made : {K : Type 0} → (K → Meaning) → K → List ℕ → Memory → List Call → List Answer → List Answer → Map (List Cell) → Map (List Cell) → Result ℕ ManagerFault → Type 0
-Run-made means kind arities x calls answers answers′ first last =
+-- a run over a new manager: as many calls are made as there are answers and row buffers
+abbrev pub Run-made : {K : Type 0} → (K → Meaning) → K → List ℕ → Memory → List Call → List Answer → List Answer → List Sample → Map (List Cell) → Map (List Cell) → Result ℕ ManagerFault → Type 0
+Run-made means kind arities x calls answers answers′ buffers first last =
     checks.Answers (new-checks x arities)
-    (λ n. (n ≡ min (length calls) (length answers)) × Ran (language arities (means kind)) (take n calls) (take n answers′) first last)
+    (λ n. (n ≡ min (min (length calls) (length answers)) (length buffers)) × Ran (language arities (means kind)) (take n calls) (take n answers′) first last)
     (λ f. (answers′ ≡ answers) × Same last first)

@@ -4,8 +4,9 @@ ghost use lib.Dec.{eqb};
 ghost use Rattle.std.specs.shelf.Lists.{countBy};
 ghost use Rattle.manager.specs.Book.{Fixed, Sizes, Well, book-of};
 ghost use Rattle.manager.specs.Checks.{Answers};
-ghost use Rattle.manager.specs.Ending.{Abandoned, Begun, abandon-checks, begin-checks};
+ghost use Rattle.manager.specs.Ending.{Abandoned, Begun, Committed, Entered, abandon-checks, begin-checks, commit-checks};
 use crate::check::check_sizes;
+use crate::entering::enter_changes;
 use crate::entry::PendingChangeOwned;
 use crate::entry::ReservationOwned;
 use crate::entry::Transaction;
@@ -15,6 +16,8 @@ use crate::fault::ManagerFaultFromStore;
 use crate::memory::Memory;
 use crate::state::Manager;
 use kinds::kind::Kind;
+use stores::fault::StoreFault;
+use stores::store::Store;
 
 impl<K: Kind> Manager<K> {
     // Opens the next transaction.
@@ -62,5 +65,41 @@ impl<K: Kind> Manager<K> {
         self.reservations.remove(memory.reservations, transaction);
         self.changes.remove(memory.changes, transaction);
         Ok(number)
+    }
+
+    fn enter_own<S: Store>(
+        &self,
+        memory: &Memory,
+        store: &mut S,
+        transaction: u32,
+    ) -> Result<(), StoreFault>
+        requires sizes { ⌜ Sizes (now memory) ⌝ }
+        requires well { ⌜ Well (K·Kind .means) (now self) (now memory) ⌝ }
+        ensures { λ r. ⌜ Entered (S·Store .means) (S·Store .places) transaction (book-of (now (self .entry)) (now (memory .entry)) .changes) (now (store .entry)) (now (store .exit)) r ⌝ }
+    {
+        enter_changes(store, self.changes.entries(memory.changes), transaction)
+    }
+
+    // The changes of the transaction enter the store, and all its entries leave; the next commit number.
+    pub fn commit<S: Store>(
+        &mut self,
+        memory: &mut Memory,
+        store: &mut S,
+        transaction: u32,
+    ) -> Result<u32, ManagerFault>
+        requires { ⌜ Well (K·Kind .means) (now self) (now memory) ⌝ }
+        ensures answers { λ r. ⌜ Answers (commit-checks (now (memory .entry)) (book-of (now (self .entry)) (now (memory .entry))) (S·Store .means (now (store .entry))) (S·Store .places (now (store .entry))) transaction) (Committed transaction (book-of (now (self .entry)) (now (memory .entry))) (book-of (now (self .exit)) (now (memory .exit))) (S·Store .means (now (store .entry))) (S·Store .means (now (store .exit)))) (λ _. (book-of (now (self .exit)) (now (memory .exit)) ≡ book-of (now (self .entry)) (now (memory .entry))) × (now (store .exit) ≡ now (store .entry))) r ⌝ }
+        ensures places { λ _. ⌜ S·Store .places (now (store .exit)) ≡ S·Store .places (now (store .entry)) ⌝ }
+        ensures well { λ _. ⌜ Well (K·Kind .means) (now (self .exit)) (now (memory .exit)) ⌝ }
+        ensures fixed { λ _. ⌜ Fixed (now (self .entry)) (now (self .exit)) ⌝ }
+    {
+        check_sizes(memory)?;
+        self.check_open(memory, transaction)?;
+        self.enter_own(memory, store, transaction)?;
+        self.transactions.remove(memory.transactions, transaction);
+        self.reservations.remove(memory.reservations, transaction);
+        self.changes.remove(memory.changes, transaction);
+        self.last_commit += 1;
+        Ok(self.last_commit)
     }
 }
