@@ -2,13 +2,12 @@
 use mathlib.Core.Path.{_≡_, refl, sym, _∙_, ap, subst}
 use mathlib.Core.List.{List, [], _∷_, _++_, map, append-nil}
 use mathlib.Core.Bool.{Bool, true, false, cond}
-use Prim.Native.Nat.{ℕ, zero, suc, _+_, _<_, _≤_}
+use Prim.Native.Nat.{ℕ, zero, suc, _+_, _<_}
 use native.Mathlib.Omega.{arith}
-use lib.ListN.{length, getD, take, set}
+use lib.ListN.{length, take, set}
 use Rattle.std.specs.shelf.Lists.{All, kept-by}
 use Rattle.std.proofs.shelf.Lists.{map-append, take-more-set}
 use Rattle.std.proofs.shelf.Elements.{kept-by-more}
-use Rattle.std.proofs.shelf.Tests.{true≢false}
 use Rattle.kinds.specs.declared.condition.Condition.{Condition}
 use Rattle.terms.specs.declared.constraint.Constraint.{Constraint}
 use Rattle.compare.specs.declared.classes.Root.{Root}
@@ -22,20 +21,20 @@ module _ (roots : List Root) (ks : List Constraint) (y i : ℕ) (here : i < leng
   more : class-conditions roots (take (i + 1) ks) y
       ≡ class-conditions roots (take i ks) y ++ map condition-of (cond (on-class roots y (constraint-at ks i)) (constraint-at ks i ∷ []) [])
   more =
-    ap (map condition-of) (kept-by-more (on-class roots y) ks i (record { variable = 0; condition = record { form = 0; a = 0; b = 0 } }) here)
-    ∙ map-append condition-of (kept-by (on-class roots y) (take i ks)) (cond (on-class roots y (constraint-at ks i)) (constraint-at ks i ∷ []) [])
+      ap (map condition-of) (kept-by-more (on-class roots y) ks i (record { variable = 0; condition = record { form = 0; a = 0; b = 0 } }) here)
+      ∙ map-append condition-of (kept-by (on-class roots y) (take i ks)) (cond (on-class roots y (constraint-at ks i)) (constraint-at ks i ∷ []) [])
 
   pub gathered : on-class roots y (constraint-at ks i) ≡ true → (qs : List Condition) (n : ℕ) → n < length qs → take n qs ≡ class-conditions roots (take i ks) y
       → take (n + 1) (set qs n (constraint-at ks i .condition)) ≡ class-conditions roots (take (i + 1) ks) y
   gathered e qs n l h =
-    take-more-set qs n (constraint-at ks i .condition) l
-    ∙ ap (λ zs. zs ++ (constraint-at ks i .condition ∷ [])) h
-    ∙ sym (more ∙ ap (λ (b : Bool). class-conditions roots (take i ks) y ++ map condition-of (cond b (constraint-at ks i ∷ []) [])) e)
+      take-more-set qs n (constraint-at ks i .condition) l
+      ∙ ap (λ zs. zs ++ (constraint-at ks i .condition ∷ [])) h
+      ∙ sym (more ∙ ap (λ (b : Bool). class-conditions roots (take i ks) y ++ map condition-of (cond b (constraint-at ks i ∷ []) [])) e)
 
   pub passed-over : on-class roots y (constraint-at ks i) ≡ false → class-conditions roots (take (i + 1) ks) y ≡ class-conditions roots (take i ks) y
   passed-over e =
-    more ∙ ap (λ (b : Bool). class-conditions roots (take i ks) y ++ map condition-of (cond b (constraint-at ks i ∷ []) [])) e
-    ∙ append-nil (class-conditions roots (take i ks) y)
+      more ∙ ap (λ (b : Bool). class-conditions roots (take i ks) y ++ map condition-of (cond b (constraint-at ks i ∷ []) [])) e
+      ∙ append-nil (class-conditions roots (take i ks) y)
 
 -- what holds of the conditions that a test keeps
 module _ (P : Condition → Type 0) (t : Constraint → Bool) where

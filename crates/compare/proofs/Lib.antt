@@ -3,3 +3,5 @@ mod Gathers
 mod Values
 mod Drawing
 mod Findings
+mod Alone
+mod Cases

@@ -1,10 +1,9 @@
 -- What entries and bindings read as.
-use mathlib.Core.Path.{_≡_, refl, sym, _∙_, ap, subst}
+use mathlib.Core.Path.{_≡_, refl, sym, _∙_, ap}
 use mathlib.Core.List.{List, [], _∷_}
-use mathlib.Core.Bool.{Bool, true, false}
-use Prim.Native.Nat.{ℕ, zero, suc, _+_, _-_, _<_, _≤_}
+use Prim.Native.Nat.{ℕ, zero, suc, _-_, _<_, _≤_}
 use lib.Dec.{ltb}
-use lib.ListN.{length, take, drop, replicate}
+use lib.ListN.{take, drop, replicate}
 use native.Mathlib.Omega.{arith}
 use Rattle.std.specs.Options.{Cases, isSome}
 use Rattle.std.specs.declared.option.Option.{Option}
@@ -14,7 +13,10 @@ use Rattle.terms.specs.declared.cell.Cell.{Cell}
 use Rattle.unification.specs.Fronts.{part}
 use Rattle.unification.specs.Unifiers.{Replacement}
 use Rattle.compare.specs.declared.binding.Binding.{Binding}
-use Rattle.compare.specs.Bindings.{joint, place-of, replacements}
+use Rattle.compare.specs.declared.binding.Side.{Side}
+use Rattle.compare.specs.declared.binding.Side.the-variants.{Left, Right}
+use Rattle.compare.specs.Bindings.{joint, place-of, Cell-within, Within-patterns, replacements}
+use Rattle.std.specs.shelf.Lists.{All}
 
 -- a part from the start
 pub from-start : {A : Type 0} (xs : List A) (n : ℕ) → take (n - 0) xs ≡ take n xs
@@ -41,3 +43,12 @@ replacements-none sig cells n zero zero = refl
 replacements-none sig cells n zero (suc k) = refl
 replacements-none sig cells n (suc m) zero = replacements-none sig cells n m zero
 replacements-none sig cells n (suc m) (suc k) = replacements-none sig cells n m k
+
+-- bindings that are not there name nothing, and a cell within a pattern is within a larger one
+pub none-within : (n m k : ℕ) → All (Within-patterns n m) (replicate k None)
+none-within n m zero = tt
+none-within n m (suc k) = (tt, none-within n m k)
+
+pub cell-within : (n m l : ℕ) (s : Side) (k : ℕ) → m ≤ l → Cell-within n m s k → Cell-within n l s k
+cell-within n m l Left k h w = w
+cell-within n m l Right k h w = omega arith

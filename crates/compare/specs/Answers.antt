@@ -17,7 +17,7 @@ use Rattle.unification.specs.Pairs.{shifted, both-constraints}
 use Rattle.unification.specs.Shares.{Shared, Least-choice}
 use Rattle.compare.specs.declared.sample.Sample.{Sample}
 use Rattle.compare.specs.declared.sample.Common.{Common}
-use Rattle.compare.specs.Bindings.{unifier}
+use Rattle.compare.specs.Bindings.{Within-patterns, unifier}
 
 -- the sample has the row's first 12 cells, blanks after them, and says whether more follow
 pub record Shows (s : Sample) (row : List Cell) : Type 0 where
@@ -33,9 +33,10 @@ pub record Sampled (sig : List ℕ) (M : Meaning) (left right : Description) (μ
   pub fits-right : Fits sig M (apply choice (left .cells)) right
   pub shows : Shows s (apply choice (left .cells))
 
--- The bindings in sequence are a most general unifier; each row that fits both patterns is the unified term under a choice that both share;
+-- The bindings name variables and cells of the patterns, and in sequence are a most general unifier; each row that fits both patterns is the unified term under a choice that both share;
 -- and the sample is of such a row.
 pub record Common-part (sig : List ℕ) (M : Meaning) (left right : Description) (a : Common) : Type 0 where
+  pub within : All (Within-patterns (length (left .cells)) (length (right .cells))) (a .bindings)
   pub general : MostGeneral sig (unifier sig left right (a .bindings)) (left .cells) (map shifted (right .cells))
   pub every : (row : List Cell) → Fits sig M row left → Fits sig M row right
       → (σ : Subst) × Shared sig M left right σ × (row ≡ apply σ (apply (unifier sig left right (a .bindings)) (left .cells)))

@@ -1,6 +1,6 @@
 -- What sixteen bindings say: replacements, one after another.
-use mathlib.Core.List.{List, [], _∷_, map}
-use Prim.Native.Nat.{ℕ, _+_}
+use mathlib.Core.List.{List, [], _∷_}
+use Prim.Native.Nat.{ℕ, _+_, _<_}
 use lib.ListN.{length}
 use Rattle.std.specs.declared.option.Option.{Option}
 use Rattle.std.specs.declared.option.Option.the-variants.{Some, None}
@@ -29,6 +29,17 @@ joint v = start (v .side) 8 + v .number
 abbrev pub place-of : ℕ → TermPlace → ℕ
 place-of n t = start (t .side) n + t .cell
 
+-- a cell of its side's pattern, where the left one has n cells and the right one m
+abbrev pub Cell-within : ℕ → ℕ → Side → ℕ → Type 0
+Cell-within n m Left k = k < n
+Cell-within n m Right k = k < m
+
+-- a binding names one of its pattern's eight variables and one of its pattern's cells
+abbrev pub Within-patterns : ℕ → ℕ → Option Binding → Type 0
+Within-patterns n m None = Unit {0}
+Within-patterns n m (Some b) = (b .variable .number < 8) × Cell-within n m (b .term .side) (b .term .cell)
+
+-- each binding as the replacement of a variable by a term
 abbrev pub replacements : List ℕ → List Cell → ℕ → List (Option Binding) → List Replacement
 replacements sig cells n [] = []
 replacements sig cells n (None ∷ bs) = replacements sig cells n bs

@@ -2,8 +2,7 @@
 use mathlib.Core.Path.{_≡_}
 use mathlib.Core.List.{List}
 use mathlib.Core.Bool.{Bool}
-use Prim.Native.Nat.{ℕ, _<_}
-use lib.ListN.{length}
+use Prim.Native.Nat.{ℕ}
 use Rattle.terms.specs.declared.cell.Cell.{Cell}
 use Rattle.unification.specs.Sheets.{entry}
 use Rattle.unification.specs.Orders.{Chosen}

@@ -5,3 +5,5 @@ pub mod Roots
 pub mod Settling
 pub mod Joints
 pub mod Answers
+pub mod Outside
+pub mod Worked

@@ -1,13 +1,14 @@
 // The bindings of a sheet, in an order in which they can be applied one after another.
 ghost use mathlib.Core.Path.{_≡_};
-ghost use Prim.Native.Nat.{ℕ, _<_, _≤_};
+ghost use Prim.Native.Nat.{ℕ, _+_, _-_, _<_, _≤_};
 ghost use lib.ListN.{length, getD};
 ghost use lib.Dec.{ltb};
 ghost use mathlib.Core.Bool.{false};
 ghost use Rattle.std.specs.Options.{Cases};
+ghost use Rattle.std.specs.shelf.Lists.{All};
 ghost use Rattle.unification.specs.Sheets.{entry, Good, Straight};
 ghost use Rattle.unification.specs.Orders.{Ready, Within, Stuck, opens, Unsolved, Ordered};
-ghost use Rattle.compare.specs.Bindings.{joint, place-of, replacements};
+ghost use Rattle.compare.specs.Bindings.{joint, place-of, Cell-within, Within-patterns, replacements};
 ghost use Rattle.compare.specs.Leaves.{Is-leaf};
 use crate::binding::Binding;
 use crate::binding::Side;
@@ -21,7 +22,8 @@ impl Variable {
     // The variable x, of which 8 to 15 are the right pattern's.
     fn joint(x: usize) -> Variable
         requires { ⌜ x < 16 ⌝ }
-        ensures { λ r. ⌜ joint r ≡ x ⌝ }
+        ensures same { λ r. ⌜ joint r ≡ x ⌝ }
+        ensures small { λ r. ⌜ r .number < 8 ⌝ }
     {
         if x < 8 {
             Variable {
@@ -40,7 +42,8 @@ impl Variable {
 impl TermPlace {
     // The term at a place, where the left pattern's cells come first.
     fn joint(place: usize, left: usize) -> TermPlace
-        ensures { λ r. ⌜ place-of left r ≡ place ⌝ }
+        ensures same { λ r. ⌜ place-of left r ≡ place ⌝ }
+        ensures within { λ r. ⌜ Cell-within left (place + 1 - left) (r .side) (r .cell) ⌝ }
     {
         if place < left {
             TermPlace {
@@ -83,12 +86,7 @@ pub struct Leaf {
 }
 
 // A waiting variable that is a leaf.
-fn choose(
-    signature: &Signature,
-    cells: &[Cell],
-    sheet: &[Cell],
-    wait: [bool; 16],
-) -> Option<Leaf>
+fn choose(signature: &Signature, cells: &[Cell], sheet: &[Cell], wait: [bool; 16]) -> Option<Leaf>
     requires good { ⌜ Good (now signature .arities) (now cells) ⌝ }
     requires long { ⌜ length (now sheet) ≡ 16 ⌝ }
     requires bound { ⌜ Within (now cells) (now sheet) wait ⌝ }
@@ -142,15 +140,13 @@ pub fn order(
     requires good { ⌜ Good (now signature .arities) (now cells) ⌝ }
     requires long { ⌜ length (now sheet) ≡ 16 ⌝ }
     requires straight { ⌜ Straight (now cells) (now sheet) ⌝ }
-    ensures { λ r. ⌜ Cases r (Unsolved (now (signature .entry) .arities) (now (cells .entry)) (now (sheet .entry))) (λ out. Ordered (now (signature .entry) .arities) (now (cells .entry)) (now (sheet .entry)) (replacements (now (signature .entry) .arities) (now (cells .entry)) left out)) ⌝ }
+    ensures { λ r. ⌜ Cases r (Unsolved (now (signature .entry) .arities) (now (cells .entry)) (now (sheet .entry))) (λ out. Ordered (now (signature .entry) .arities) (now (cells .entry)) (now (sheet .entry)) (replacements (now (signature .entry) .arities) (now (cells .entry)) left out) × All (Within-patterns left (length (now (cells .entry)) - left)) out) ⌝ }
 {
     let mut wait = bound_of(cells, sheet);
     let mut to_place = count(wait);
     let mut out = [None; 16];
     while to_place > 0 {
-        let Some(leaf) = choose(signature, cells, sheet, wait) else {
-            return None;
-        };
+        let leaf = choose(signature, cells, sheet, wait)?;
         to_place -= 1;
         let binding = Binding {
             variable: Variable::joint(leaf.variable),

@@ -1,6 +1,6 @@
 // The binding sheet: sixteen entries, one for each variable of the two patterns.
 ghost use mathlib.Core.Path.{_≡_};
-ghost use Prim.Native.Nat.{ℕ, _^_, _<_, _≤_};
+ghost use Prim.Native.Nat.{_^_, _<_, _≤_};
 ghost use lib.ListN.{length, replicate};
 ghost use Rattle.std.specs.Options.{Cases};
 ghost use Rattle.unification.specs.Sheets.{blank, Blank, entry, entry-to};
@@ -44,12 +44,12 @@ pub fn wipe(sheet: &mut [Cell])
 
 // A loan of the caller's sheet, which is wiped where the loan ends, whatever way it ends.
 pub struct Guard<'a> {
-    pub sheet: &'a mut [Cell],
+    pub sheet: &'a mut [Cell; 16],
 }
 
 impl Drop for Guard<'_> {
     fn drop(self)
-        ensures { λ _. ⌜ now (self .exit .0) ≡ replicate (length (now (self .exit .0))) blank ⌝ }
+        ensures { λ _. ⌜ Blank (now (self .exit .0)) ⌝ }
     {
         let Guard { sheet } = self;
         wipe(sheet);

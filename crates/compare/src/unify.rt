@@ -1,6 +1,6 @@
 // Robinson's unification on cells. Nothing is copied: a variable is bound to a place.
 ghost use mathlib.Core.Path.{_≡_};
-ghost use Prim.Native.Nat.{ℕ, _<_};
+ghost use Prim.Native.Nat.{_<_};
 ghost use lib.ListN.{length, drop};
 ghost use Rattle.unification.specs.Fronts.{Begins, at};
 ghost use Rattle.unification.specs.Sheets.{Good, Straight, Rooted, Names, Stepped};

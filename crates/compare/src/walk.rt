@@ -1,6 +1,6 @@
 // Ways through the cells: past a term, and from a bound variable to what it stands for.
 ghost use mathlib.Core.Path.{_≡_};
-ghost use Prim.Native.Nat.{ℕ, _<_, _≤_};
+ghost use Prim.Native.Nat.{_<_, _≤_};
 ghost use lib.ListN.{length, drop};
 ghost use Rattle.unification.specs.Fronts.{after};
 ghost use Rattle.unification.specs.Sheets.{Good, Straight, Derefs};

@@ -45,7 +45,16 @@ pub fn write(
     row[at] = c;
     let k = signature.arity(c);
     if p == i {
-        return write(signature, cells, sheet, fills, i + 1, n - 1 + k, row, at + 1);
+        return write(
+            signature,
+            cells,
+            sheet,
+            fills,
+            i + 1,
+            n - 1 + k,
+            row,
+            at + 1,
+        );
     }
     let m = write(signature, cells, sheet, fills, p + 1, k, row, at + 1);
     if m > 12 {

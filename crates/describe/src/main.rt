@@ -28,7 +28,38 @@ use words::SpokenDisplay;
 
 // The arities of the model base: a count has four arguments, a turn two, an opposite arm one.
 const ARITIES: [u8; 32] = [
-    0, 4, 2, 1, 0, 0, 0, 0, 0, 0, 0, 0, 0, 0, 0, 0, 0, 0, 0, 0, 0, 0, 0, 0, 0, 0, 0, 0, 0, 0, 0, 0,
+    0,
+    4,
+    2,
+    1,
+    0,
+    0,
+    0,
+    0,
+    0,
+    0,
+    0,
+    0,
+    0,
+    0,
+    0,
+    0,
+    0,
+    0,
+    0,
+    0,
+    0,
+    0,
+    0,
+    0,
+    0,
+    0,
+    0,
+    0,
+    0,
+    0,
+    0,
+    0,
 ];
 
 // How many values of a set are listed one by one.
@@ -112,7 +143,10 @@ fn refuse(rt: &LibcRuntime, fault: PatternFault) -> io::Result<()> {
         _ => "a variable above 7, or a ninth constraint, number",
     };
     let place = refusal.place.unwrap_or(0);
-    println!(rt, "  refused with {number}: {what} {place} (counted from 0)")
+    println!(
+        rt,
+        "  refused with {number}: {what} {place} (counted from 0)"
+    )
 }
 
 fn describe(rt: &LibcRuntime, signature: &Signature, line: &str) -> Result<(), AnyError> {
@@ -120,13 +154,21 @@ fn describe(rt: &LibcRuntime, signature: &Signature, line: &str) -> Result<(), A
     let written = match notation::read(rt.alloc(), line) {
         Ok(written) => written,
         Err(Unread::Word(count)) => {
-            println!(rt, "  not read: word {count} is neither a cell nor a constraint")?;
+            println!(
+                rt,
+                "  not read: word {count} is neither a cell nor a constraint"
+            )?;
             return Ok(());
         }
         Err(Unread::NoMemory) => return Err("no memory".into()),
     };
     let kind = ALL_KINDS;
-    match Pattern::read(signature, &kind, written.cells.as_slice(), written.constraints.as_slice()) {
+    match Pattern::read(
+        signature,
+        &kind,
+        written.cells.as_slice(),
+        written.constraints.as_slice(),
+    ) {
         Ok(pattern) => accept(rt, &pattern),
         Err(fault) => {
             refuse(rt, fault)?;

@@ -42,7 +42,9 @@ fn number(digits: &[u8]) -> Option<u32> {
         if !digit.is_ascii_digit() {
             return None;
         }
-        value = value.checked_mul(10)?.checked_add(u32::from(*digit - b'0'))?;
+        value = value
+            .checked_mul(10)?
+            .checked_add(u32::from(*digit - b'0'))?;
     }
     Some(value)
 }

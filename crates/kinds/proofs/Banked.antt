@@ -67,12 +67,12 @@ module _ (M N : Meaning) (first : Sound M) (second : Sound N) where
 
   pub both-sound : Sound (both M N)
   both-sound = record {
-      bounded = λ l t e. one-of (M .tops l) (N .tops l) t (first .bounded l t) (second .bounded l t) e;
-      no-symbol = ap (λ o. or-else o (N .tops 83)) (first .no-symbol) ∙ second .no-symbol;
-      no-variable = ap (λ o. or-else o (N .tops 86)) (first .no-variable) ∙ second .no-variable;
-      belongs = λ q l e. belongs-either q (M .letters q) (left-over (M .tops) (N .letters q)) l (first .belongs q l)
-          (λ k. second .belongs q l (left-is (N .letters q) l k .0)) e;
-      known = λ q c h. known-either q (M .letters q) (left-over (M .tops) (N .letters q)) (M .holds q c) (N .holds q c) h;
-      values = λ q l c e h. values-either q (M .letters q) (left-over (M .tops) (N .letters q)) l c (first .values q l c)
-          (λ k n. let i = left-is (N .letters q) l k in (i .1, second .values q l c (i .0) n)) e h;
-    }
+    bounded = λ l t e. one-of (M .tops l) (N .tops l) t (first .bounded l t) (second .bounded l t) e;
+    no-symbol = ap (λ o. or-else o (N .tops 83)) (first .no-symbol) ∙ second .no-symbol;
+    no-variable = ap (λ o. or-else o (N .tops 86)) (first .no-variable) ∙ second .no-variable;
+    belongs = λ q l e. belongs-either q (M .letters q) (left-over (M .tops) (N .letters q)) l (first .belongs q l)
+        (λ k. second .belongs q l (left-is (N .letters q) l k .0)) e;
+    known = λ q c h. known-either q (M .letters q) (left-over (M .tops) (N .letters q)) (M .holds q c) (N .holds q c) h;
+    values = λ q l c e h. values-either q (M .letters q) (left-over (M .tops) (N .letters q)) l c (first .values q l c)
+        (λ k n. let i = left-is (N .letters q) l k in (i .1, second .values q l c (i .0) n)) e h;
+  }

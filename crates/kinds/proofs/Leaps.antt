@@ -101,8 +101,8 @@ module _ (M : Meaning) (l c : ℕ) where
 pub smallest-value : (M : Meaning) (q : Condition) (qs : List Condition) (l c : ℕ) → Of-letter M (q ∷ qs) l → Smallest (Holds M (q ∷ qs)) 0 (Some c)
     → Smallest-value M (q ∷ qs) (Some (record { letter = l; code = c }))
 smallest-value M q qs l c a s = (
-    meets-of M l c (q ∷ qs) a (s .1),
-    λ k d m.
-        let e : Some k ≡ Some l = sym (meets-letter M k d (q ∷ qs) m .0) ∙ a .0 in
-        (cc, ⊎-elim (λ b. absurd (s .2 d zero-le b (meets-holds M k d (q ∷ qs) m))) (λ b. b) (cases-lt d c)),
-  )
+  meets-of M l c (q ∷ qs) a (s .1),
+  λ k d m.
+      let e : Some k ≡ Some l = sym (meets-letter M k d (q ∷ qs) m .0) ∙ a .0 in
+      (cc, ⊎-elim (λ b. absurd (s .2 d zero-le b (meets-holds M k d (q ∷ qs) m))) (λ b. b) (cases-lt d c)),
+)

@@ -28,7 +28,7 @@ Part None None P Q = ⊥
 
 abbrev pub both : Meaning → Meaning → Meaning
 both M N = record {
-    tops = λ l. or-else (M .tops l) (N .tops l);
-    letters = λ q. or-else (M .letters q) (left-over (M .tops) (N .letters q));
-    holds = λ q c. Part (M .letters q) (left-over (M .tops) (N .letters q)) (M .holds q c) (N .holds q c);
-  }
+  tops = λ l. or-else (M .tops l) (N .tops l);
+  letters = λ q. or-else (M .letters q) (left-over (M .tops) (N .letters q));
+  holds = λ q c. Part (M .letters q) (left-over (M .tops) (N .letters q)) (M .holds q c) (N .holds q c);
+}

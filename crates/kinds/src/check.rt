@@ -19,7 +19,11 @@ pub fn check_value<K: Kind>(kind: &K, letter: u8, code: u32, place: usize) -> Re
 }
 
 // The condition at this place.
-pub fn check_condition<K: Kind>(kind: &K, condition: Condition, place: usize) -> Result<(), BankFault>
+pub fn check_condition<K: Kind>(
+    kind: &K,
+    condition: Condition,
+    place: usize,
+) -> Result<(), BankFault>
     ensures { λ r. ⌜ Checked (Known (K·Kind .means (now (kind .entry))) condition) (BadCondition place) r ⌝ }
 {
     match kind.letter(condition) {

@@ -14,22 +14,22 @@ use Rattle.refusals.specs.Places.{First-fault}
 -- what agrees with xs up to place i has that place too, and the same there
 pub agrees-at : {A : Type 0} (xs ys : List A) (i : ℕ) → i < length xs → take (i + 1) ys ≡ take (i + 1) xs → (i < length ys) × ((d : A) → getD ys i d ≡ getD xs i d)
 agrees-at xs ys i l e = (
-    (let p = ap length e in let q = length-take (i + 1) ys in let r = length-take (i + 1) xs in omega arith),
-    λ d. sym (getD-take (i + 1) ys i d (omega arith)) ∙ ap (λ zs. getD zs i d) e ∙ getD-take (i + 1) xs i d (omega arith),
-  )
+  (let p = ap length e in let q = length-take (i + 1) ys in let r = length-take (i + 1) xs in omega arith),
+  λ d. sym (getD-take (i + 1) ys i d (omega arith)) ∙ ap (λ zs. getD zs i d) e ∙ getD-take (i + 1) xs i d (omega arith),
+)
 
 -- Lists of at most `limit` elements, each with P: the first that is not so, or one too many.
 module _ {A : Type 0} (P : A → Type 0) (limit : ℕ) (Proper : List A → Type 0) (few : (ys : List A) → Proper ys → length ys ≤ limit)
     (each : (ys : List A) → Proper ys → All P ys) where
   pub fault-at : (xs : List A) (i : ℕ) (d : A) → i < length xs → Proper (take i xs) → (P (getD xs i d) → i < limit → ⊥) → First-fault Proper xs i
   fault-at xs i d l before bad = record {
-      within = omega arith;
-      before = (take i xs, before, take-take i i xs (omega arith));
-      here = λ ys p e.
-          let a = agrees-at xs ys i l e in
-          let n = few ys p in
-          bad (subst P (a .1 d) (all-getD P ys i d (a .0) (each ys p))) (let b = a .0 in omega arith);
-    }
+    within = omega arith;
+    before = (take i xs, before, take-take i i xs (omega arith));
+    here = λ ys p e.
+        let a = agrees-at xs ys i l e in
+        let n = few ys p in
+        bad (subst P (a .1 d) (all-getD P ys i d (a .0) (each ys p))) (let b = a .0 in omega arith);
+  }
 
 module _ {A : Type 0} (Proper : List A → Type 0) (xs : List A) where
   -- what agrees up to j agrees up to a smaller i too

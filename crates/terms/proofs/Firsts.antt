@@ -24,10 +24,10 @@ nought-more (n ∷ ns) (suc i) l e f = getD-take (suc i + 1) (n ∷ ns) 0 0 (ome
 
 pub arities-more : (ns : List ℕ) (i : ℕ) → i < length ns → length ns ≤ 32 → Arities (take i ns) → getD ns i 0 ≤ 7 → (i ≡ 0 → getD ns i 0 ≡ 0) → Arities (take (i + 1) ns)
 arities-more ns i l few a h z = record {
-    few = let e = length-take-le (i + 1) ns (omega arith) in omega arith;
-    nought = nought-more ns i l (a .nought) z;
-    small = all-more (λ n. n ≤ 7) ns i 0 l (a .small) h;
-  }
+  few = let e = length-take-le (i + 1) ns (omega arith) in omega arith;
+  nought = nought-more ns i l (a .nought) z;
+  small = all-more (λ n. n ≤ 7) ns i 0 l (a .small) h;
+}
 
 pub arities-fault : (ns : List ℕ) (i : ℕ) → i < length ns → Arities (take i ns) → (7 < getD ns i 0) ⊎ ((i ≡ 0) × (getD ns i 0 ≡ 0 → ⊥)) → First-fault Arities ns i
 arities-fault ns i l a (inl h) = fault-at (λ n. n ≤ 7) 32 Arities (λ ys p. p .few) (λ ys p. p .small) ns i 0 l a (λ p _. omega arith)
@@ -44,29 +44,32 @@ arities-fault ns i l a (inr h) =
 module _ (M : Meaning) (ks : List Constraint) (i : ℕ) (d : Constraint) (here : i < length ks) (before : Constraints M (take i ks)) where
   pub constraints-more : i < 8 → Constrains M (getD ks i d) → Constraints M (take (i + 1) ks)
   constraints-more l h = record {
-      few = let e = length-take-le (i + 1) ks (omega arith) in omega arith;
-      each = all-more (Constrains M) ks i d here (before .each) h;
-    }
+    few = let e = length-take-le (i + 1) ks (omega arith) in omega arith;
+    each = all-more (Constrains M) ks i d here (before .each) h;
+  }
 
   pub constraints-fault : (Constrains M (getD ks i d) → i < 8 → ⊥) → First-fault (Constraints M) ks i
   constraints-fault bad = fault-at (Constrains M) 8 (Constraints M) (λ ys p. p .few) (λ ys p. p .each) ks i d here before bad
 
   pub constraint-refused : (8 ≤ i) ⊎ (8 ≤ getD ks i d .variable) → Constraints-refused M ks (ConstraintF i)
   constraint-refused h = record {
-      place = i;
-      first = constraints-fault (λ p l. elim h [ inl a ↦ omega arith | inr a ↦ omega (arith, p .0) ]);
-      fault = inl (refl, elim h [
-          inl a ↦ inl a
+    place = i;
+    first = constraints-fault (λ p l. elim h [ inl a ↦ omega arith | inr a ↦ omega (arith, p .0) ]);
+    fault = inl (
+      refl,
+      elim h [
+        | inl a ↦ inl a
         | inr a ↦ inr (λ e. subst (λ (k : Constraint). 8 ≤ k .variable) (getD-default ks i d e here) a)
-        ]);
-    }
+      ],
+    );
+  }
 
   pub condition-refused : i < 8 → getD ks i d .variable < 8 → (Known M (getD ks i d .condition) → ⊥) → Constraints-refused M ks (Bank (BadCondition i))
   condition-refused l v h = record {
-      place = i;
-      first = constraints-fault (λ p _. h (p .1));
-      fault = inr (refl, l, λ e. subst (λ (k : Constraint). k .variable < 8) (getD-default ks i d e here) v);
-    }
+    place = i;
+    first = constraints-fault (λ p _. h (p .1));
+    fault = inr (refl, l, λ e. subst (λ (k : Constraint). k .variable < 8) (getD-default ks i d e here) v);
+  }
 
 -- items with blanks after them, one item more
 pub filled-more : {A : Type 0} (xs ys all : List A) (i : ℕ) (x : A) → i < length xs → length xs ≤ length ys → x ≡ getD xs i x → all ≡ take i xs ++ drop i ys

@@ -86,11 +86,11 @@ module _ (sig : List ℕ) (zero-arity : getD sig 0 0 ≡ 0) (M : Meaning) (v lim
       -- the cell at i goes on
       pub before-more : Goes-on sig M v limit (getD cs i d) i to-come → Before cs (i + 1) (to-come - 1 + arity sig (getD cs i d))
       before-more g = record {
-          reads = leaves-more sig 1 to-come i cs d here (g .wanted) (before .reads);
-          starts = starts-more cs i d here (before .starts) (g .starts);
-          fine = all-more (Fine M v) cs i d here (before .fine) (g .fine);
-          room = g .room;
-        }
+        reads = leaves-more sig 1 to-come i cs d here (g .wanted) (before .reads);
+        starts = starts-more cs i d here (before .starts) (g .starts);
+        fine = all-more (Fine M v) cs i d here (before .fine) (g .fine);
+        room = g .room;
+      }
 
       -- what proper cells that agree one further say of the cell at i
       agrees : (ds : List Cell) → Small-term sig M v limit ds → take (i + 1) ds ≡ take (i + 1) cs → Goes-on sig M v limit (getD cs i d) i to-come
@@ -100,7 +100,7 @@ module _ (sig : List ℕ) (zero-arity : getD sig 0 0 ≡ 0) (M : Meaning) (v lim
           let l : i < length ds = at-i .0 in
           let same : getD ds i d ≡ c = at-i .1 d in
           let whole : Leaves sig 1 (take (i + 1) cs ++ drop (i + 1) ds) 0 =
-                subst (λ (xs : List Cell). Leaves sig 1 xs 0) (sym (take-append-drop (i + 1) ds) ∙ ap (λ xs. xs ++ drop (i + 1) ds) e) (t .term .whole) in
+          subst (λ (xs : List Cell). Leaves sig 1 xs 0) (sym (take-append-drop (i + 1) ds) ∙ ap (λ xs. xs ++ drop (i + 1) ds) e) (t .term .whole) in
           let parts = leaves-split sig 1 0 (take (i + 1) cs) (drop (i + 1) ds) whole in
           let front : Leaves sig 1 (take i cs ++ c ∷ []) (parts .0) = subst (λ (xs : List Cell). Leaves sig 1 xs (parts .0)) (take-more cs i d here) (parts .1) in
           let step = leaves-split sig 1 (parts .0) (take i cs) (c ∷ []) front in
@@ -117,20 +117,20 @@ module _ (sig : List ℕ) (zero-arity : getD sig 0 0 ≡ 0) (M : Meaning) (v lim
       -- the cell at i does not go on: it is the first fault
       pub fault-here : (Goes-on sig M v limit (getD cs i d) i to-come → ⊥) → First-fault (Small-term sig M v limit) cs i
       fault-here no-more = record {
-          within = omega arith;
-          before = completes (omega arith);
-          here = λ ds t e. no-more (agrees ds t e);
-        }
+        within = omega arith;
+        before = completes (omega arith);
+        here = λ ds t e. no-more (agrees ds t e);
+      }
 
       -- so it is refused, with its own fault
       pub refused-here : (f : PatternFault) → (Goes-on sig M v limit (getD cs i d) i to-come → ⊥)
           × (((f ≡ Bank (BadValue i)) × Stray M (getD cs i d)) ⊎ ((f ≡ Structure i) × (Stray M (getD cs i d) → ⊥)))
           → Cells-refused (Small-term sig M v limit) M cs f
       refused-here f r = record {
-          place = i;
-          first = fault-here (r .0);
-          fault = ⊎-map (λ b. (b .0, λ e. subst (Stray M) (getD-default cs i d e here) (b .1))) (λ b. (b .0, λ stray. b .1 (stray d))) (r .1);
-        }
+        place = i;
+        first = fault-here (r .0);
+        fault = ⊎-map (λ b. (b .0, λ e. subst (Stray M) (getD-default cs i d e here) (b .1))) (λ b. (b .0, λ stray. b .1 (stray d))) (r .1);
+      }
 
   -- all cells are read and terms are still to come: the end is the first fault
   pub fault-end : (cs : List Cell) (i to-come : ℕ) → Before cs i to-come → i ≡ length cs → 0 < to-come → First-fault (Small-term sig M v limit) cs (length cs)
@@ -152,10 +152,10 @@ module _ (sig : List ℕ) (zero-arity : getD sig 0 0 ≡ 0) (M : Meaning) (v lim
   pub refused-end : (cs : List Cell) (i to-come : ℕ) → Before cs i to-come → i ≡ length cs → 0 < to-come
       → Cells-refused (Small-term sig M v limit) M cs (Structure (length cs))
   refused-end cs i to-come before e some = record {
-      place = length cs;
-      first = fault-end cs i to-come before e some;
-      fault = inr (refl, λ stray. stray nought .no-symbol (ap (λ (c : Cell). c .letter) (getD-past cs (length cs) nought (omega arith))));
-    }
+    place = length cs;
+    first = fault-end cs i to-come before e some;
+    fault = inr (refl, λ stray. stray nought .no-symbol (ap (λ (c : Cell). c .letter) (getD-past cs (length cs) nought (omega arith))));
+  }
 
   -- all cells are read and none is to come: they are proper
   pub proper-end : (cs : List Cell) (i to-come : ℕ) → Before cs i to-come → i ≡ length cs → to-come ≡ 0 → Small-term sig M v limit cs

@@ -1,7 +1,7 @@
 use kinds::condition::Condition;
 use kinds::condition::ConditionDebug;
-use kinds::condition::ConditionPartialEq;
 use kinds::condition::ConditionEq;
+use kinds::condition::ConditionPartialEq;
 
 // A condition on a variable.
 #[derive(Clone, Copy, PartialEq, Eq, Debug)]

@@ -1,10 +1,9 @@
 // Cells from the left: whether they are one term, and else the first fault.
 ghost use mathlib.Core.Path.{_≡_};
 ghost use Prim.Native.Nat.{_-_, _^_, _<_, _≤_};
-ghost use Rattle.terms.specs.Terms.{arity as arity-of};
 ghost use Rattle.terms.specs.Proper.{Small-term};
 ghost use Rattle.terms.specs.Shapes.{limit, variables};
-ghost use Rattle.terms.specs.Reading.{Cells-checked, Scanned, Stray};
+ghost use Rattle.terms.specs.Reading.{Cells-checked, Scanned};
 use crate::cell::Cell;
 use crate::fault::PatternFault;
 use crate::fault::PatternFaultFromBank;
@@ -12,20 +11,6 @@ use crate::shape::Shape;
 use crate::signature::Signature;
 use kinds::check;
 use kinds::kind::Kind;
-
-impl Signature {
-    // How many arguments follow a cell; a symbol above 31 has none.
-    pub fn arity(&self, cell: Cell) -> usize
-        ensures value { λ r. ⌜ r ≡ arity-of (now (self .entry) .arities) cell ⌝ }
-        ensures small { λ r. ⌜ r < 256 ⌝ }
-    {
-        if cell.letter == b'S' && cell.number < 32 {
-            self.arities[cell.number as usize] as usize
-        } else {
-            0
-        }
-    }
-}
 
 // Checks one cell: how many terms are to come after it, where `to_come` were before it.
 fn scan_cell<K: Kind>(

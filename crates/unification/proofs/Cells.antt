@@ -1,12 +1,12 @@
 -- What is known of each cell, and what substitution keeps of it.
 use mathlib.Core.Path.{_≡_, refl, sym, _∙_, ap, subst}
-use mathlib.Core.Logic.{_⊎_, inl, inr}
-use mathlib.Core.List.{List, [], _∷_, _++_, map}
+use mathlib.Core.Logic.{inl, inr}
+use mathlib.Core.List.{List, [], _∷_, _++_}
 use mathlib.Core.Bool.{Bool, true, false, cond}
-use Prim.Native.Nat.{ℕ, zero, suc, _+_, _<_, _≤_}
+use Prim.Native.Nat.{ℕ, zero, suc, _+_, _<_}
 use native.Mathlib.Omega.{arith}
 use lib.Dec.{eqb}
-use lib.ListN.{length, getD, drop}
+use lib.ListN.{getD, drop}
 use Rattle.std.specs.Orderings.{When}
 use Rattle.std.specs.shelf.Lists.{All}
 use Rattle.std.proofs.shelf.Elements.{all-append, all-getD, all-drop, all-weaker}
@@ -19,7 +19,7 @@ use Rattle.terms.specs.Fitting.{Ground}
 use Rattle.unification.specs.Fronts.{terms, at, part}
 use Rattle.unification.specs.Unifiers.{var, Replacement, single, sequence}
 use Rattle.unification.specs.Pairs.{Below}
-use Rattle.unification.proofs.Theory.{var-or, image-var, image-fix, are-apply, sequence-assigns}
+use Rattle.unification.proofs.Theory.{var-or, image-var, image-fix, are-apply}
 
 -- a variable is below the bound, and any other cell is fine under every bound
 pub fine-var : (M : Meaning) (v : ℕ) (c : Cell) → Fine M v c → c .letter ≡ 86 → c .number < v
@@ -56,8 +56,8 @@ pub all-apply : (P : Cell → Type 0) (σ : Subst) → ((x : ℕ) → All P (σ 
 all-apply P σ h [] k = tt
 all-apply P σ h (c ∷ cs) k = all-append P (image σ c) (apply σ cs)
     (elim (var-or c) [
-      inl v ↦ subst (All P) (sym (image-var σ c v)) (h (c .number))
-    | inr v ↦ subst (All P) (sym (image-fix σ c v)) (k .0 v, tt)
+      | inl v ↦ subst (All P) (sym (image-var σ c v)) (h (c .number))
+      | inr v ↦ subst (All P) (sym (image-fix σ c v)) (k .0 v, tt)
     ])
     (all-apply P σ h cs (k .1))
 
@@ -72,12 +72,12 @@ pub sequence-steady : (M : Meaning) (sig : List ℕ) (cells : List Cell) → All
 sequence-steady M sig cells s [] h y = ((λ n. absurd (n refl)), tt)
 sequence-steady M sig cells s (b ∷ bs) h y =
     let one : All (Steady M) (single (b .name) (b .term) y) = elim (eqb-tells y (b .name)) [
-        inl p ↦ subst (All (Steady M)) (sym (ap (λ (t : Bool). cond t (b .term) (var y ∷ [])) (p .0)))
+      | inl p ↦ subst (All (Steady M)) (sym (ap (λ (t : Bool). cond t (b .term) (var y ∷ [])) (p .0)))
           (subst (All (Steady M)) (sym (h .0 .1)) (all-terms (Steady M) sig 1 (drop (h .0 .0) cells) (all-drop (Steady M) (h .0 .0) cells s)))
       | inr p ↦ subst (All (Steady M)) (sym (ap (λ (t : Bool). cond t (b .term) (var y ∷ [])) (p .0))) ((λ n. absurd (n refl)), tt)
-      ] in
+    ] in
     all-apply (Steady M) (sequence bs) (sequence-steady M sig cells s bs (h .1)) (single (b .name) (b .term) y)
-      (all-weaker (Steady M) (λ c. (c .letter ≡ 86 → ⊥) → Steady M c) (λ c k n. k) (single (b .name) (b .term) y) one)
+    (all-weaker (Steady M) (λ c. (c .letter ≡ 86 → ⊥) → Steady M c) (λ c k n. k) (single (b .name) (b .term) y) one)
 
 -- variable-free terms for what is left free make every term variable-free
 pub grounded : (sig : List ℕ) (M : Meaning) (γ : Subst) → ((x : ℕ) → Ground sig M (γ x)) → (cs : List Cell) → Are sig 1 cs → All (Steady M) cs → Ground sig M (apply γ cs)
@@ -98,7 +98,11 @@ nought-ground sig M z = (subst (λ (k : ℕ). Are sig (k + 0) []) (sym z) refl, 
 pub value-ground : (sig : List ℕ) (M : Meaning) (l c : ℕ) → Sound M → Value M l c → Ground sig M (record { letter = l; number = c } ∷ [])
 value-ground sig M l c s v =
     let ns : l ≡ 83 → ⊥ = λ e. absurd (subst (λ o. Under o c) (s .no-symbol) (subst (λ (k : ℕ). Value M k c) e v)) in
-    let nv : l ≡ 86 → ⊥ = λ e. absurd (subst (λ o. Under o c) (s .no-variable) (subst (λ (k : ℕ). Value M k c) e v)) in
-    (subst (λ (k : ℕ). Are sig (k + 0) []) (sym (ap (λ (t : Bool). cond t (getD sig c 0) 0) (ne-eqb l 83 ns))) refl,
-     (subst (λ (t : Bool). When t (c < 32) (When (eqb l 86) (c < 0) (Value M l c))) (sym (ne-eqb l 83 ns))
-       (subst (λ (t : Bool). When t (c < 0) (Value M l c)) (sym (ne-eqb l 86 nv)) v), tt))
+    let nv : l ≡ 86 → ⊥ = λ e. absurd (subst (λ o. Under o c) (s .no-variable) (subst (λ (k : ℕ). Value M k c) e v)) in (
+      subst (λ (k : ℕ). Are sig (k + 0) []) (sym (ap (λ (t : Bool). cond t (getD sig c 0) 0) (ne-eqb l 83 ns))) refl,
+      (
+        subst (λ (t : Bool). When t (c < 32) (When (eqb l 86) (c < 0) (Value M l c))) (sym (ne-eqb l 83 ns))
+            (subst (λ (t : Bool). When t (c < 0) (Value M l c)) (sym (ne-eqb l 86 nv)) v),
+        tt,
+      ),
+    )

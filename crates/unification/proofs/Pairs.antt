@@ -1,16 +1,15 @@
 -- Two patterns one behind the other.
 use mathlib.Core.Path.{_≡_, refl, sym, _∙_, ap, subst}
 use mathlib.Core.Logic.{_⊎_, inl, inr}
-use mathlib.Core.List.{List, [], _∷_, _++_, append-nil, map}
-use mathlib.Core.Bool.{Bool, true, false, cond}
-use Prim.Native.Nat.{ℕ, zero, suc, _+_, _-_, _*_, _<_, _≤_}
+use mathlib.Core.List.{List, [], _∷_, append-nil, map}
+use mathlib.Core.Bool.{Bool, false, cond}
+use Prim.Native.Nat.{ℕ, zero, suc, _+_, _-_, _<_, _≤_}
 use native.Mathlib.Omega.{arith}
-use lib.ListN.{length, getD, drop, set, length-append, replicate}
-use lib.Dec.{eqb}
+use lib.ListN.{length, getD, length-append, replicate}
 use Rattle.std.specs.shelf.Lists.{All}
 use Rattle.std.proofs.shelf.Elements.{all-append, all-weaker, all-map}
 use Rattle.std.proofs.shelf.Lists.{getD-replicate, getD-append-left, getD-append-right, getD-map, length-map, drop-at}
-use Rattle.std.proofs.shelf.Tests.{false≢true, true≢false, cases-lt, eq-eqb, ne-eqb}
+use Rattle.std.proofs.shelf.Tests.{false≢true, cases-lt, eq-eqb, ne-eqb}
 use Rattle.kinds.specs.Meaning.{Meaning}
 use Rattle.terms.specs.declared.cell.Cell.{Cell}
 use Rattle.terms.specs.declared.constraint.Constraint.{Constraint}
@@ -41,15 +40,15 @@ shifted-fix c h = ap (λ (b : Bool). cond b (record { letter = c .letter; number
 
 pub shifted-letter : (c : Cell) → shifted c .letter ≡ c .letter
 shifted-letter c = elim (var-or c) [
-      inl v ↦ ap (λ (d : Cell). d .letter) (shifted-var c v)
-    | inr v ↦ ap (λ (d : Cell). d .letter) (shifted-fix c v)
-    ]
+  | inl v ↦ ap (λ (d : Cell). d .letter) (shifted-var c v)
+  | inr v ↦ ap (λ (d : Cell). d .letter) (shifted-fix c v)
+]
 
 pub shifted-arity : (sig : List ℕ) (c : Cell) → arity sig (shifted c) ≡ arity sig c
 shifted-arity sig c = elim (var-or c) [
-      inl v ↦ arity-var sig (shifted c) (shifted-letter c ∙ v) ∙ sym (arity-var sig c v)
-    | inr v ↦ ap (arity sig) (shifted-fix c v)
-    ]
+  | inl v ↦ arity-var sig (shifted c) (shifted-letter c ∙ v) ∙ sym (arity-var sig c v)
+  | inr v ↦ ap (arity sig) (shifted-fix c v)
+]
 
 pub are-shifted : (sig : List ℕ) (n : ℕ) (cs : List Cell) → Are sig n cs → Are sig n (map shifted cs)
 are-shifted sig n [] h = h
@@ -61,43 +60,46 @@ are-shifted sig (suc n) (c ∷ cs) h =
 pub pair-at : (left right : List Cell) (k : ℕ) → k < length (pair left right)
     → ((k < length left) × (at (pair left right) k ≡ at left k)) ⊎ ((k - length left < length right) × (at (pair left right) k ≡ shifted (at right (k - length left))))
 pair-at left right k l = elim (cases-lt k (length left)) [
-      inl h ↦ inl (h, getD-append-left left (map shifted right) (record { letter = 0; number = 0 }) k h)
-    | inr h ↦
-        let m : k - length left < length right = omega (arith, length-append left (map shifted right), length-map right shifted) in
-        inr (m, getD-append-right left (map shifted right) (length left) k (record { letter = 0; number = 0 }) refl h
-          ∙ getD-map shifted right (k - length left) (record { letter = 0; number = 0 }) (record { letter = 0; number = 0 }) m)
-    ]
+  | inl h ↦ inl (h, getD-append-left left (map shifted right) (record { letter = 0; number = 0 }) k h)
+  | inr h ↦
+      let m : k - length left < length right = omega (arith, length-append left (map shifted right), length-map right shifted) in
+      inr (
+        m,
+        getD-append-right left (map shifted right) (length left) k (record { letter = 0; number = 0 }) refl h
+            ∙ getD-map shifted right (k - length left) (record { letter = 0; number = 0 }) (record { letter = 0; number = 0 }) m,
+      )
+]
 
 pub pair-are : (sig : List ℕ) (left right : List Cell) → Are sig 1 left → Are sig 1 right → Are sig 2 (pair left right)
 pair-are sig left right a b = are-more sig 1 1 left (map shifted right) a (are-shifted sig 1 right b)
 
 pub pair-good : (sig : List ℕ) (left right : List Cell) → Usable sig left → Usable sig right → Good sig (pair left right)
 pair-good sig left right a b = record {
-      few = omega (arith, length-append left (map shifted right), length-map right shifted, a .few, b .few);
-      vars = λ k l s. elim (pair-at left right k l) [
-          inl p ↦
-            let w : at left k .number < 8 = a .small k (p .0) (ap (λ (c : Cell). c .letter) (sym (p .1)) ∙ s) in
-            omega (arith, ap (λ (c : Cell). c .number) (p .1))
-        | inr p ↦
-            let e : at right (k - length left) .letter ≡ 86 = sym (shifted-letter (at right (k - length left))) ∙ ap (λ (c : Cell). c .letter) (sym (p .1)) ∙ s in
-            let w : at right (k - length left) .number < 8 = b .small (k - length left) (p .0) e in
-            omega (arith, ap (λ (c : Cell). c .number) (p .1 ∙ shifted-var (at right (k - length left)) e))
-        ];
-      whole = λ k l. begins-at sig 2 k (pair left right) (pair-are sig left right (a .term) (b .term)) l;
-    }
+  few = omega (arith, length-append left (map shifted right), length-map right shifted, a .few, b .few);
+  vars = λ k l s. elim (pair-at left right k l) [
+    | inl p ↦
+        let w : at left k .number < 8 = a .small k (p .0) (ap (λ (c : Cell). c .letter) (sym (p .1)) ∙ s) in
+        omega (arith, ap (λ (c : Cell). c .number) (p .1))
+    | inr p ↦
+        let e : at right (k - length left) .letter ≡ 86 = sym (shifted-letter (at right (k - length left))) ∙ ap (λ (c : Cell). c .letter) (sym (p .1)) ∙ s in
+        let w : at right (k - length left) .number < 8 = b .small (k - length left) (p .0) e in
+        omega (arith, ap (λ (c : Cell). c .number) (p .1 ∙ shifted-var (at right (k - length left)) e))
+  ];
+  whole = λ k l. begins-at sig 2 k (pair left right) (pair-are sig left right (a .term) (b .term)) l;
+}
 
 -- the cells of the pair are those of a term with sixteen variables
 pub pair-fine : (M : Meaning) (left right : List Cell) → All (Fine M 8) left → All (Fine M 8) right → All (Fine M 16) (pair left right)
 pair-fine M left right a b =
     all-append (Fine M 16) left (map shifted right)
     (all-weaker (Fine M 8) (Fine M 16) (λ c f. elim (var-or c) [
-        inl v ↦ fine-as-var M 16 c v (let l = fine-var M 8 c f v in omega arith)
+      | inl v ↦ fine-as-var M 16 c v (let l = fine-var M 8 c f v in omega arith)
       | inr v ↦ fine-other M 8 16 c f v
-      ]) left a)
+    ]) left a)
     (all-map (Fine M 16) shifted right (all-weaker (Fine M 8) (λ c. Fine M 16 (shifted c)) (λ c f. elim (var-or c) [
-        inl v ↦ subst (Fine M 16) (sym (shifted-var c v)) (fine-as-var M 16 (record { letter = c .letter; number = c .number + 8 }) v (let l = fine-var M 8 c f v in omega arith))
+      | inl v ↦ subst (Fine M 16) (sym (shifted-var c v)) (fine-as-var M 16 (record { letter = c .letter; number = c .number + 8 }) v (let l = fine-var M 8 c f v in omega arith))
       | inr v ↦ subst (Fine M 16) (sym (shifted-fix c v)) (fine-other M 8 16 c f v)
-      ]) right b))
+    ]) right b))
 
 -- and the constraints are on sixteen variables
 pub pair-named : (M : Meaning) (left right : List Constraint) → All (Constrains M) left → All (Constrains M) right → All (λ k. k .variable < 16) (both-constraints left right)
@@ -131,20 +133,20 @@ module _ (sig : List ℕ) (left right cells : List Cell) (a : Usable sig left) (
 
   pub levels : (σ : Subst) → Level sig cells 0 (length left) 1 σ → Unifies σ left (map shifted right)
   levels σ l =
-    sym (ap (apply σ) (part-left sig left right (a .term)))
-    ∙ ap (λ (cs : List Cell). apply σ (part sig cs 0 1)) (sym is) ∙ l ∙ ap (λ (cs : List Cell). apply σ (part sig cs (length left) 1)) is
-    ∙ ap (apply σ) (part-right sig left right (b .term))
+      sym (ap (apply σ) (part-left sig left right (a .term)))
+      ∙ ap (λ (cs : List Cell). apply σ (part sig cs 0 1)) (sym is) ∙ l ∙ ap (λ (cs : List Cell). apply σ (part sig cs (length left) 1)) is
+      ∙ ap (apply σ) (part-right sig left right (b .term))
 
   pub unlevels : (σ : Subst) → Unifies σ left (map shifted right) → Level sig cells 0 (length left) 1 σ
   unlevels σ u =
-    ap (λ (cs : List Cell). apply σ (part sig cs 0 1)) is ∙ ap (apply σ) (part-left sig left right (a .term))
-    ∙ u
-    ∙ sym (ap (apply σ) (part-right sig left right (b .term))) ∙ ap (λ (cs : List Cell). apply σ (part sig cs (length left) 1)) (sym is)
+      ap (λ (cs : List Cell). apply σ (part sig cs 0 1)) is ∙ ap (apply σ) (part-left sig left right (a .term))
+      ∙ u
+      ∙ sym (ap (apply σ) (part-right sig left right (b .term))) ∙ ap (λ (cs : List Cell). apply σ (part sig cs (length left) 1)) (sym is)
 
   blank-free : (sheet : List Cell) → Blank sheet → (x : ℕ) → x < 16 → entry sheet x < length cells → ⊥
   blank-free sheet k x l h =
-    let e : entry sheet x ≡ 48 = ap place-in (ap (λ (s : List Cell). at s x) k ∙ getD-replicate 16 x blank (record { letter = 0; number = 0 }) l) in
-    omega (arith, good .few)
+      let e : entry sheet x ≡ 48 = ap place-in (ap (λ (s : List Cell). at s x) k ∙ getD-replicate 16 x blank (record { letter = 0; number = 0 }) l) in
+      omega (arith, good .few)
 
   pub blank-sol : (sheet : List Cell) → Blank sheet → (σ : Subst) → Sol sig cells sheet σ
   blank-sol sheet k σ x l h = absurd (blank-free sheet k x l h)
@@ -166,5 +168,5 @@ module _ (sig : List ℕ) (left right cells : List Cell) (a : Usable sig left) (
   pub found : (before behind : List Cell) (bs : List Replacement) → Blank before → Merged sig cells before behind 0 (length left) 1 → Ordered sig cells behind bs
       → MostGeneral sig (sequence bs) left (map shifted right)
   found before behind bs k m o = most-general sig bs left (map shifted right) (o .proper)
-    (λ σ s h. levels σ (m .sound σ s (o .solved σ h) .1))
-    (λ σ s u. o .solves σ (m .full σ s (blank-sol before k σ) (unlevels σ u)))
+      (λ σ s h. levels σ (m .sound σ s (o .solved σ h) .1))
+      (λ σ s u. o .solves σ (m .full σ s (blank-sol before k σ) (unlevels σ u)))

@@ -1,11 +1,11 @@
 -- Terms at places of a list of cells.
 use mathlib.Core.Path.{_≡_, refl, sym, _∙_, ap, subst}
-use mathlib.Core.Logic.{_⊎_, inl, inr}
+use mathlib.Core.Logic.{inl, inr}
 use mathlib.Core.List.{List, [], _∷_, _++_, append-nil}
-use mathlib.Core.Bool.{Bool, true, false, cond}
+use mathlib.Core.Bool.{Bool, true, false}
 use Prim.Native.Nat.{ℕ, zero, suc, _+_, _-_, _<_, _≤_}
 use native.Mathlib.Omega.{arith}
-use lib.ListN.{length, getD, drop, set, length-drop, length-append}
+use lib.ListN.{length, getD, drop, set, length-drop}
 use Rattle.std.proofs.shelf.Lists.{drop-more, drop-drop, getD-set-same, getD-set-other}
 use Rattle.std.proofs.shelf.Ways.{eqb-tells}
 use Rattle.std.proofs.shelf.Tests.{true≢false}
@@ -13,7 +13,7 @@ use Rattle.terms.specs.declared.cell.Cell.{Cell}
 use Rattle.terms.specs.Terms.{arity, Subst, image, apply}
 use Rattle.unification.specs.Fronts.{Begins, terms, after, at, part}
 use Rattle.unification.specs.Sheets.{Good, entry-to, place-in, entry, Sol, Straight, Rooted, Derefs, Level, Merged}
-use Rattle.unification.proofs.Theory.{begins-length, begins-front, begins-after, terms-more, after-more, terms-are, after-none, terms-none, arity-var, image-var, image-fix, apply-++, are-apply, unique}
+use Rattle.unification.proofs.Theory.{begins-length, begins-front, begins-after, terms-more, terms-none, arity-var, image-var, image-fix}
 
 -- the first cell of n terms at a place
 pub record Step (sig : List ℕ) (cells : List Cell) (i n : ℕ) : Type 0 where
@@ -30,7 +30,7 @@ step sig cells i (suc m) h k =
     let e : drop i cells ≡ at cells i ∷ drop (i + 1) cells = drop-more cells i (record { letter = 0; number = 0 }) l in
     let n : arity sig (at cells i) + m ≡ suc m - 1 + arity sig (at cells i) = omega arith in
     let b : Begins sig (suc m - 1 + arity sig (at cells i)) (drop (i + 1) cells) =
-      subst (λ (z : ℕ). Begins sig z (drop (i + 1) cells)) n (subst (Begins sig (suc m)) e h) in
+    subst (λ (z : ℕ). Begins sig z (drop (i + 1) cells)) n (subst (Begins sig (suc m)) e h) in
     record {
       within = l;
       begins = b;
@@ -101,19 +101,20 @@ module _ (sig : List ℕ) (cells sheet : List Cell) (x p : ℕ) (long : length s
 
   pub sol-set : (σ : Subst) → Sol sig cells sheet σ → σ x ≡ apply σ (part sig cells p 1) → Sol sig cells (set sheet x (entry-to p)) σ
   sol-set σ s e y l b = elim (eqb-tells y x) [
-      inl k ↦ ap σ (k .1) ∙ e ∙ ap (λ (m : ℕ). apply σ (part sig cells m 1)) (sym entry-new ∙ ap (entry (set sheet x (entry-to p))) (sym (k .1)))
+    | inl k ↦ ap σ (k .1) ∙ e ∙ ap (λ (m : ℕ). apply σ (part sig cells m 1)) (sym entry-new ∙ ap (entry (set sheet x (entry-to p))) (sym (k .1)))
     | inr k ↦ s y l (omega (arith, entry-old y (k .1))) ∙ ap (λ (m : ℕ). apply σ (part sig cells m 1)) (sym (entry-old y (k .1)))
-    ]
+  ]
 
   pub sol-unset : (σ : Subst) → Sol sig cells (set sheet x (entry-to p)) σ → Sol sig cells sheet σ × (σ x ≡ apply σ (part sig cells p 1))
-  sol-unset σ s =
-    (λ y l b. let k : y ≡ x → ⊥ = λ e. (let f : entry sheet y ≡ entry sheet x = ap (entry sheet) e in omega arith) in
-       s y l (omega (arith, entry-old y k)) ∙ ap (λ (m : ℕ). apply σ (part sig cells m 1)) (entry-old y k),
-     s x small (omega (arith, entry-new)) ∙ ap (λ (m : ℕ). apply σ (part sig cells m 1)) entry-new)
+  sol-unset σ s = (
+    λ y l b. let k : y ≡ x → ⊥ = λ e. (let f : entry sheet y ≡ entry sheet x = ap (entry sheet) e in omega arith) in
+        s y l (omega (arith, entry-old y k)) ∙ ap (λ (m : ℕ). apply σ (part sig cells m 1)) (entry-old y k),
+    s x small (omega (arith, entry-new)) ∙ ap (λ (m : ℕ). apply σ (part sig cells m 1)) entry-new,
+  )
 
   pub straight-set : Straight cells sheet → (at cells p .letter ≡ 86 → at cells p .number < x) → Straight cells (set sheet x (entry-to p))
   straight-set s h y l b = elim (eqb-tells y x) [
-      inl k ↦ λ v.
+    | inl k ↦ λ v.
         let e : entry (set sheet x (entry-to p)) y ≡ p = ap (entry (set sheet x (entry-to p))) (k .1) ∙ entry-new in
         let w : at cells p .number < x = h (ap (λ (m : ℕ). at cells m .letter) (sym e) ∙ v) in
         omega (arith, ap (λ (m : ℕ). at cells m .number) e, k .1)
@@ -121,7 +122,7 @@ module _ (sig : List ℕ) (cells sheet : List Cell) (x p : ℕ) (long : length s
         let e : entry (set sheet x (entry-to p)) y ≡ entry sheet y = entry-old y (k .1) in
         let w : at cells (entry sheet y) .number < y = s y l (omega (arith, e)) (ap (λ (m : ℕ). at cells m .letter) (sym e) ∙ v) in
         omega (arith, ap (λ (m : ℕ). at cells m .number) e)
-    ]
+  ]
 
 -- one term
 module _ (sig : List ℕ) (cells : List Cell) where
@@ -130,66 +131,67 @@ module _ (sig : List ℕ) (cells : List Cell) where
       → at cells p .letter ≡ 86 → (at cells q .letter ≡ 86 → at cells q .number < at cells p .number)
       → Merged sig cells sheet (set sheet (at cells p .number) d) p q 1
   bound-left sheet p q d is g long s r w v h =
-    let x : ℕ = at cells p .number in
-    let l : x < 16 = g .vars p (r .0) v in
-    subst (λ (d : Cell). Merged sig cells sheet (set sheet (at cells p .number) d) p q 1) (sym is) (record {
-      straight = straight-set sig cells sheet x q long l (r .1 v) w s h;
-      sound = λ σ a t.
-        (sol-unset sig cells sheet x q long l (r .1 v) w σ t .0,
-         part-var sig cells p σ (g .whole p (r .0)) v ∙ sol-unset sig cells sheet x q long l (r .1 v) w σ t .1);
-      full = λ σ a t e. sol-set sig cells sheet x q long l (r .1 v) w σ t (sym (part-var sig cells p σ (g .whole p (r .0)) v) ∙ e);
-    })
+      let x : ℕ = at cells p .number in
+      let l : x < 16 = g .vars p (r .0) v in
+      subst (λ (d : Cell). Merged sig cells sheet (set sheet (at cells p .number) d) p q 1) (sym is) (record {
+        straight = straight-set sig cells sheet x q long l (r .1 v) w s h;
+        sound = λ σ a t. (
+          sol-unset sig cells sheet x q long l (r .1 v) w σ t .0,
+          part-var sig cells p σ (g .whole p (r .0)) v ∙ sol-unset sig cells sheet x q long l (r .1 v) w σ t .1,
+        );
+        full = λ σ a t e. sol-set sig cells sheet x q long l (r .1 v) w σ t (sym (part-var sig cells p σ (g .whole p (r .0)) v) ∙ e);
+      })
 
   pub turned : (before behind : List Cell) (p q n : ℕ) → Merged sig cells before behind p q n → Merged sig cells before behind q p n
   turned before behind p q n m = record {
-      straight = m .straight;
-      sound = λ σ a t. (m .sound σ a t .0, sym (m .sound σ a t .1));
-      full = λ σ a t e. m .full σ a t (sym e);
-    }
+    straight = m .straight;
+    sound = λ σ a t. (m .sound σ a t .0, sym (m .sound σ a t .1));
+    full = λ σ a t e. m .full σ a t (sym e);
+  }
 
   -- through what the two places stand for
   pub through : (before behind : List Cell) (i j p q : ℕ) → Derefs sig cells before i p → Derefs sig cells before j q
       → Merged sig cells before behind p q 1 → Merged sig cells before behind i j 1
   through before behind i j p q d e m = record {
-      straight = m .straight;
-      sound = λ σ a t. let k = m .sound σ a t in (k .0, d .means σ (k .0) ∙ k .1 ∙ sym (e .means σ (k .0)));
-      full = λ σ a t l. m .full σ a t (sym (d .means σ t) ∙ l ∙ e .means σ t);
-    }
+    straight = m .straight;
+    sound = λ σ a t. let k = m .sound σ a t in (k .0, d .means σ (k .0) ∙ k .1 ∙ sym (e .means σ (k .0)));
+    full = λ σ a t l. m .full σ a t (sym (d .means σ t) ∙ l ∙ e .means σ t);
+  }
 
   -- equal heads: the arguments
   pub args : (before behind : List Cell) (p q k : ℕ) → Good sig cells → p < length cells → q < length cells → (at cells p .letter ≡ 86 → ⊥) → at cells p ≡ at cells q
       → k ≡ arity sig (at cells p) → Merged sig cells before behind (p + 1) (q + 1) k → Merged sig cells before behind p q 1
   args before behind p q k g lp lq v e n m =
-    let f : (σ : Subst) → apply σ (part sig cells p 1) ≡ at cells p ∷ apply σ (part sig cells (p + 1) k) =
+      let f : (σ : Subst) → apply σ (part sig cells p 1) ≡ at cells p ∷ apply σ (part sig cells (p + 1) k) =
       λ σ. part-fix sig cells p σ (g .whole p lp) v ∙ ap (λ (z : ℕ). at cells p ∷ apply σ (part sig cells (p + 1) z)) (sym n) in
-    let h : (σ : Subst) → apply σ (part sig cells q 1) ≡ at cells p ∷ apply σ (part sig cells (q + 1) k) =
+      let h : (σ : Subst) → apply σ (part sig cells q 1) ≡ at cells p ∷ apply σ (part sig cells (q + 1) k) =
       λ σ. part-fix sig cells q σ (g .whole q lq) (λ w. v (ap (λ (c : Cell). c .letter) e ∙ w))
-        ∙ ap (λ (c : Cell). c ∷ apply σ (part sig cells (q + 1) (arity sig c))) (sym e)
-        ∙ ap (λ (z : ℕ). at cells p ∷ apply σ (part sig cells (q + 1) z)) (sym n) in
-    record {
-      straight = m .straight;
-      sound = λ σ a t. (m .sound σ a t .0, f σ ∙ ap (λ xs. at cells p ∷ xs) (m .sound σ a t .1) ∙ sym (h σ));
-      full = λ σ a t l.
-        let w : at cells p ∷ apply σ (part sig cells (p + 1) k) ≡ at cells p ∷ apply σ (part sig cells (q + 1) k) = sym (f σ) ∙ l ∙ h σ in
-        m .full σ a t (cc);
-    }
+      ∙ ap (λ (c : Cell). c ∷ apply σ (part sig cells (q + 1) (arity sig c))) (sym e)
+      ∙ ap (λ (z : ℕ). at cells p ∷ apply σ (part sig cells (q + 1) z)) (sym n) in
+      record {
+        straight = m .straight;
+        sound = λ σ a t. (m .sound σ a t .0, f σ ∙ ap (λ xs. at cells p ∷ xs) (m .sound σ a t .1) ∙ sym (h σ));
+        full = λ σ a t l.
+            let w : at cells p ∷ apply σ (part sig cells (p + 1) k) ≡ at cells p ∷ apply σ (part sig cells (q + 1) k) = sym (f σ) ∙ l ∙ h σ in
+            m .full σ a t (cc);
+      }
 
   pub level-same : (sheet : List Cell) (p q : ℕ) → Good sig cells → p < length cells → q < length cells → Straight cells sheet
       → at cells p .letter ≡ 86 → at cells q .letter ≡ 86 → at cells p .number ≡ at cells q .number → Merged sig cells sheet sheet p q 1
   level-same sheet p q g lp lq s v w e = record {
-      straight = s;
-      sound = λ σ a t. (t, part-var sig cells p σ (g .whole p lp) v ∙ ap σ e ∙ sym (part-var sig cells q σ (g .whole q lq) w));
-      full = λ σ a t l. t;
-    }
+    straight = s;
+    sound = λ σ a t. (t, part-var sig cells p σ (g .whole p lp) v ∙ ap σ e ∙ sym (part-var sig cells q σ (g .whole q lq) w));
+    full = λ σ a t l. t;
+  }
 
   pub heads-differ : (p q : ℕ) (σ : Subst) → Good sig cells → p < length cells → q < length cells
       → (at cells p .letter ≡ 86 → ⊥) → (at cells q .letter ≡ 86 → ⊥) → (at cells p .letter ≡ at cells q .letter → at cells p .number ≡ at cells q .number → ⊥)
       → Level sig cells p q 1 σ → ⊥
   heads-differ p q σ g lp lq v w d l =
-    let e : at cells p ∷ apply σ (part sig cells (p + 1) (arity sig (at cells p))) ≡ at cells q ∷ apply σ (part sig cells (q + 1) (arity sig (at cells q))) =
+      let e : at cells p ∷ apply σ (part sig cells (p + 1) (arity sig (at cells p))) ≡ at cells q ∷ apply σ (part sig cells (q + 1) (arity sig (at cells q))) =
       sym (part-fix sig cells p σ (g .whole p lp) v) ∙ l ∙ part-fix sig cells q σ (g .whole q lq) w in
-    let h : at cells p ≡ at cells q = cc in
-    d (ap (λ (c : Cell). c .letter) h) (ap (λ (c : Cell). c .number) h)
+      let h : at cells p ≡ at cells q = cc in
+      d (ap (λ (c : Cell). c .letter) h) (ap (λ (c : Cell). c .number) h)
 
 -- there is a place behind the first term
 pub after-drop : (sig : List ℕ) (n : ℕ) (cs : List Cell) → (u : ℕ) × (drop u cs ≡ after sig n cs)

@@ -1,10 +1,10 @@
 -- Writing the first cells of a row.
 use mathlib.Core.Path.{_≡_, refl, sym, _∙_, ap, subst}
-use mathlib.Core.Logic.{_⊎_, inl, inr}
+use mathlib.Core.Logic.{inl, inr}
 use mathlib.Core.List.{List, [], _∷_, _++_, append-nil, append-assoc}
-use Prim.Native.Nat.{ℕ, zero, suc, _+_, _-_, _<_, _≤_, min}
+use Prim.Native.Nat.{ℕ, suc, _+_, _-_, _<_, _≤_, min}
 use native.Mathlib.Omega.{arith}
-use lib.ListN.{length, getD, take, drop, set, length-append, length-set, length-take}
+use lib.ListN.{length, take, drop, set, length-append, length-set, length-take}
 use Rattle.std.proofs.shelf.Lists.{take-more-set, take-append-le, take-all, drop-set-lt, drop-drop}
 use Rattle.std.proofs.shelf.Ways.{eqb-tells}
 use Rattle.terms.specs.declared.cell.Cell.{Cell}
@@ -13,8 +13,8 @@ use Rattle.unification.specs.Fronts.{Begins, at, part}
 use Rattle.unification.specs.Unifiers.{Assign}
 use Rattle.unification.specs.Sheets.{Derefs}
 use Rattle.unification.specs.Samples.{Wrote}
-use Rattle.unification.proofs.Theory.{arity-var, image-var, image-fix, are-apply, terms-are, terms-none}
-use Rattle.unification.proofs.Places.{Step, step, part-var, part-fix, begins-first}
+use Rattle.unification.proofs.Theory.{arity-var, image-var, image-fix, are-apply, terms-are}
+use Rattle.unification.proofs.Places.{step, part-var, begins-first}
 
 pub wrote-none : (before : List Cell) (place : ℕ) → length before ≡ 12 → place ≤ 12 → Wrote [] before before place place
 wrote-none before place l h =
@@ -44,7 +44,7 @@ wrote-cell c ys before behind place r l h w =
       long = w .long ∙ length-set before place c;
       count = w .count ∙ ap (min 13) (sym m);
       cells = ap (λ (k : ℕ). take (min 12 k) behind) m ∙ w .cells
-        ∙ ap (λ zs. take 12 (zs ++ ys)) (take-more-set before place c (omega arith)) ∙ ap (take 12) (append-assoc (take place before) (c ∷ []) ys);
+          ∙ ap (λ zs. take 12 (zs ++ ys)) (take-more-set before place c (omega arith)) ∙ ap (take 12) (append-assoc (take place before) (c ∷ []) ys);
       rest = ap (λ (k : ℕ). drop (min 12 k) behind) m ∙ w .rest ∙ drop-set-lt (min 12 (place + 1 + length ys)) before place c (omega arith) ∙ ap (λ (k : ℕ). drop (min 12 k) before) (sym m);
     }
 
@@ -58,7 +58,7 @@ wrote-over ys zs before between place m w h l p =
       long = w .long;
       count = omega arith;
       cells = ap (λ (k : ℕ). take k between) k ∙ w .cells
-        ∙ sym (ap (take 12) (sym (append-assoc (take place before) ys zs)) ∙ take-append-le 12 (take place before ++ ys) zs (omega (arith, length-append (take place before) ys)));
+          ∙ sym (ap (take 12) (sym (append-assoc (take place before) ys zs)) ∙ take-append-le 12 (take place before ++ ys) zs (omega (arith, length-append (take place before) ys)));
       rest = ap (λ (k : ℕ). drop k between) k ∙ w .rest ∙ ap (λ (k : ℕ). drop k before) (sym k);
     }
 
@@ -70,18 +70,18 @@ wrote-then ys zs before between behind place m r w h l p v =
     let q : m + length zs ≡ place + length (ys ++ zs) = omega arith in
     let j : min 12 (place + length ys) ≡ m = omega arith in
     let s : take m between ≡ take place before ++ ys =
-      ap (λ (k : ℕ). take k between) (sym j) ∙ w .cells ∙ take-all 12 (take place before ++ ys) (omega (arith, length-append (take place before) ys)) in
+    ap (λ (k : ℕ). take k between) (sym j) ∙ w .cells ∙ take-all 12 (take place before ++ ys) (omega (arith, length-append (take place before) ys)) in
     record {
       long = v .long ∙ w .long;
       count = v .count ∙ ap (min 13) q;
       cells = ap (λ (k : ℕ). take (min 12 k) behind) (sym q) ∙ v .cells ∙ ap (λ cs. take 12 (cs ++ zs)) s ∙ ap (take 12) (append-assoc (take place before) ys zs);
       rest =
-        let d : drop m between ≡ drop m before = ap (λ (k : ℕ). drop k between) (sym j) ∙ w .rest ∙ ap (λ (k : ℕ). drop k before) j in
-        let x : m + (min 12 (m + length zs) - m) ≡ min 12 (m + length zs) = omega arith in
-        ap (λ (k : ℕ). drop (min 12 k) behind) (sym q) ∙ v .rest
-        ∙ ap (λ (k : ℕ). drop k between) (sym x) ∙ sym (drop-drop (min 12 (m + length zs) - m) m between)
-        ∙ ap (drop (min 12 (m + length zs) - m)) d
-        ∙ drop-drop (min 12 (m + length zs) - m) m before ∙ ap (λ (k : ℕ). drop k before) x ∙ ap (λ (k : ℕ). drop (min 12 k) before) q;
+          let d : drop m between ≡ drop m before = ap (λ (k : ℕ). drop k between) (sym j) ∙ w .rest ∙ ap (λ (k : ℕ). drop k before) j in
+          let x : m + (min 12 (m + length zs) - m) ≡ min 12 (m + length zs) = omega arith in
+          ap (λ (k : ℕ). drop (min 12 k) behind) (sym q) ∙ v .rest
+          ∙ ap (λ (k : ℕ). drop k between) (sym x) ∙ sym (drop-drop (min 12 (m + length zs) - m) m between)
+          ∙ ap (drop (min 12 (m + length zs) - m)) d
+          ∙ drop-drop (min 12 (m + length zs) - m) m before ∙ ap (λ (k : ℕ). drop k before) x ∙ ap (λ (k : ℕ). drop (min 12 k) before) q;
     }
 
 -- n terms at a place, by the first cell
@@ -115,6 +115,6 @@ at-some sig cells i n σ a pos b = some (apply σ (part sig cells i n)) (are-app
 -- a place that stands for a variable, or for another place, has a variable
 pub var-of : (sig : List ℕ) (cells sheet : List Cell) (i p : ℕ) → Derefs sig cells sheet i p → at cells p .letter ≡ 86 → at cells i .letter ≡ 86
 var-of sig cells sheet i p d v = elim (eqb-tells p i) [
-      inl e ↦ ap (λ (k : ℕ). at cells k .letter) (sym (e .1)) ∙ v
-    | inr e ↦ d .moved (e .1)
-    ]
+  | inl e ↦ ap (λ (k : ℕ). at cells k .letter) (sym (e .1)) ∙ v
+  | inr e ↦ d .moved (e .1)
+]

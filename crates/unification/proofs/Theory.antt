@@ -2,13 +2,12 @@
 use mathlib.Core.Path.{_≡_, refl, sym, _∙_, ap, subst, fun-ext}
 use mathlib.Core.Logic.{_⊎_, inl, inr}
 use mathlib.Core.List.{List, [], _∷_, _++_, append-assoc, append-nil}
-use mathlib.Core.Bool.{Bool, true, false, cond}
+use mathlib.Core.Bool.{Bool, cond}
 use Prim.Native.Nat.{ℕ, zero, suc, _+_, _<_, _≤_}
-use native.Mathlib.Nat.{add-assoc, zero-add, add-zero, add-suc}
+use native.Mathlib.Nat.{zero-add}
 use native.Mathlib.Omega.{arith}
-use lib.Dec.{eqb}
 use lib.ListN.{length, getD, drop, length-append}
-use Rattle.std.proofs.shelf.Ways.{eqb-tells, tells}
+use Rattle.std.proofs.shelf.Ways.{eqb-tells}
 use Rattle.std.proofs.shelf.Tests.{eq-eqb, ne-eqb}
 use Rattle.terms.specs.declared.cell.Cell.{Cell}
 use Rattle.terms.specs.Terms.{arity, Are, Subst, image, apply}
@@ -51,9 +50,10 @@ after-front sig zero (c ∷ a) r h = absurd h
 after-front sig (suc n) (c ∷ a) r h = after-front sig (arity sig c + n) a r h
 
 pub unique : (sig : List ℕ) (n : ℕ) (a b r s : List Cell) → Are sig n a → Are sig n b → a ++ r ≡ b ++ s → (a ≡ b) × (r ≡ s)
-unique sig n a b r s h k e =
-    (sym (terms-front sig n a r h) ∙ ap (terms sig n) e ∙ terms-front sig n b s k,
-     sym (after-front sig n a r h) ∙ ap (after sig n) e ∙ after-front sig n b s k)
+unique sig n a b r s h k e = (
+  sym (terms-front sig n a r h) ∙ ap (terms sig n) e ∙ terms-front sig n b s k,
+  sym (after-front sig n a r h) ∙ ap (after sig n) e ∙ after-front sig n b s k,
+)
 
 -- n terms more
 pub terms-more : (sig : List ℕ) (m n : ℕ) (cs : List Cell) → terms sig (m + n) cs ≡ terms sig m cs ++ terms sig n (after sig m cs)
@@ -143,11 +143,11 @@ are-apply sig σ g zero (c ∷ cs) h = absurd h
 are-apply sig σ g (suc n) (c ∷ cs) h =
     let ih : Are sig (arity sig c + n) (apply σ cs) = are-apply sig σ g (arity sig c + n) cs h in
     elim (var-or c) [
-      inl v ↦
-        let z : arity sig c + n ≡ n = omega (arith, arity-var sig c v) in
-        let e : 1 + n ≡ suc n = omega arith in
-        rw (image-var σ c v) (rw (← e) (are-more sig 1 n (σ (c .number)) (apply σ cs) (g (c .number)) (rw z at ih)))
-    | inr v ↦ rw (image-fix σ c v) ih
+      | inl v ↦
+          let z : arity sig c + n ≡ n = omega (arith, arity-var sig c v) in
+          let e : 1 + n ≡ suc n = omega arith in
+          rw (image-var σ c v) (rw (← e) (are-more sig 1 n (σ (c .number)) (apply σ cs) (g (c .number)) (rw z at ih)))
+      | inr v ↦ rw (image-fix σ c v) ih
     ]
 
 pub apply-comp : (σ μ : Subst) (cs : List Cell) → apply σ (apply μ cs) ≡ apply (λ x. apply σ (μ x)) cs
@@ -156,8 +156,8 @@ apply-comp σ μ (c ∷ cs) =
     apply-++ σ (image μ c) (apply μ cs)
     ∙ ap (λ xs. apply σ (image μ c) ++ xs) (apply-comp σ μ cs)
     ∙ ap (λ xs. xs ++ apply (λ x. apply σ (μ x)) cs) (elim (var-or c) [
-      inl v ↦ ap (apply σ) (image-var μ c v) ∙ sym (image-var (λ x. apply σ (μ x)) c v)
-    | inr v ↦ ap (apply σ) (image-fix μ c v) ∙ append-nil (image σ c) ∙ image-fix σ c v ∙ sym (image-fix (λ x. apply σ (μ x)) c v)
+      | inl v ↦ ap (apply σ) (image-var μ c v) ∙ sym (image-var (λ x. apply σ (μ x)) c v)
+      | inr v ↦ ap (apply σ) (image-fix μ c v) ∙ append-nil (image σ c) ∙ image-fix σ c v ∙ sym (image-fix (λ x. apply σ (μ x)) c v)
     ])
 
 pub apply-ext : (σ τ : Subst) → ((x : ℕ) → σ x ≡ τ x) → (cs : List Cell) → apply σ cs ≡ apply τ cs
@@ -178,8 +178,8 @@ apply-lacks x t [] h = refl
 apply-lacks x t (c ∷ cs) h =
     ap (λ xs. image (single x t) c ++ xs) (apply-lacks x t cs (h .1))
     ∙ ap (λ xs. xs ++ cs) (elim (var-or c) [
-      inl v ↦ image-var (single x t) c v ∙ single-other x t (c .number) (h .0 v) ∙ ap (λ (d : Cell). d ∷ []) (cell-var c v)
-    | inr v ↦ image-fix (single x t) c v
+      | inl v ↦ image-var (single x t) c v ∙ single-other x t (c .number) (h .0 v) ∙ ap (λ (d : Cell). d ∷ []) (cell-var c v)
+      | inr v ↦ image-fix (single x t) c v
     ])
 
 -- sequences
@@ -189,8 +189,8 @@ sequence-general σ (b ∷ bs) h y =
     apply-comp σ (sequence bs) (single (b .name) (b .term) y)
     ∙ apply-ext (λ x. apply σ (sequence bs x)) σ (sequence-general σ bs (h .1)) (single (b .name) (b .term) y)
     ∙ elim (eqb-tells y (b .name)) [
-      inl p ↦ ap (apply σ) (ap (λ (t : Bool). cond t (b .term) (var y ∷ [])) (p .0)) ∙ sym (h .0) ∙ ap σ (sym (p .1))
-    | inr p ↦ ap (apply σ) (ap (λ (t : Bool). cond t (b .term) (var y ∷ [])) (p .0)) ∙ append-nil (σ y)
+      | inl p ↦ ap (apply σ) (ap (λ (t : Bool). cond t (b .term) (var y ∷ [])) (p .0)) ∙ sym (h .0) ∙ ap σ (sym (p .1))
+      | inr p ↦ ap (apply σ) (ap (λ (t : Bool). cond t (b .term) (var y ∷ [])) (p .0)) ∙ append-nil (σ y)
     ]
 
 pub sequence-assigns : (sig : List ℕ) (bs : List Replacement) → Proper sig bs → Assign sig (sequence bs)
@@ -198,38 +198,40 @@ sequence-assigns sig [] h y = refl
 sequence-assigns sig (b ∷ bs) h y =
     are-apply sig (sequence bs) (sequence-assigns sig bs (h .3)) 1 (single (b .name) (b .term) y)
     (elim (eqb-tells y (b .name)) [
-      inl p ↦ rw (p .0) (h .0)
-    | inr p ↦ rw (p .0) refl
+      | inl p ↦ rw (p .0) (h .0)
+      | inr p ↦ rw (p .0) refl
     ])
 
 -- one more binding in front, of a variable that the others lack, keeps them solved
 solves-front : (b : Replacement) (all bs : List Replacement) → Apart (b .name) bs → Solves (sequence all) bs → Solves (sequence (b ∷ all)) bs
 solves-front b all [] h k = tt
-solves-front b all (d ∷ bs) h k =
-    (ap (apply (sequence all)) (single-other (b .name) (b .term) (d .name) (h .0))
-     ∙ append-nil (sequence all (d .name))
-     ∙ k .0
-     ∙ sym (ap (apply (sequence all)) (apply-lacks (b .name) (b .term) (d .term) (h .1)))
-     ∙ apply-comp (sequence all) (single (b .name) (b .term)) (d .term),
-     solves-front b all bs (h .2) (k .1))
+solves-front b all (d ∷ bs) h k = (
+  ap (apply (sequence all)) (single-other (b .name) (b .term) (d .name) (h .0))
+      ∙ append-nil (sequence all (d .name))
+      ∙ k .0
+      ∙ sym (ap (apply (sequence all)) (apply-lacks (b .name) (b .term) (d .term) (h .1)))
+      ∙ apply-comp (sequence all) (single (b .name) (b .term)) (d .term),
+  solves-front b all bs (h .2) (k .1),
+)
 
 pub sequence-solves : (sig : List ℕ) (bs : List Replacement) → Proper sig bs → Solves (sequence bs) bs
 sequence-solves sig [] h = tt
-sequence-solves sig (b ∷ bs) h =
-    (ap (apply (sequence bs)) (single-same (b .name) (b .term))
-     ∙ sym (ap (apply (sequence bs)) (apply-lacks (b .name) (b .term) (b .term) (h .1)))
-     ∙ apply-comp (sequence bs) (single (b .name) (b .term)) (b .term),
-     solves-front b bs bs (h .2) (sequence-solves sig bs (h .3)))
+sequence-solves sig (b ∷ bs) h = (
+  ap (apply (sequence bs)) (single-same (b .name) (b .term))
+      ∙ sym (ap (apply (sequence bs)) (apply-lacks (b .name) (b .term) (b .term) (h .1)))
+      ∙ apply-comp (sequence bs) (single (b .name) (b .term)) (b .term),
+  solves-front b bs bs (h .2) (sequence-solves sig bs (h .3)),
+)
 
 -- a proper sequence whose solutions are the unifiers is a most general unifier
 pub most-general : (sig : List ℕ) (bs : List Replacement) (s t : List Cell) → Proper sig bs
     → ((σ : Subst) → Assign sig σ → Solves σ bs → Unifies σ s t) → ((σ : Subst) → Assign sig σ → Unifies σ s t → Solves σ bs)
     → MostGeneral sig (sequence bs) s t
 most-general sig bs s t p f g = record {
-    assigns = sequence-assigns sig bs p;
-    unifies = f (sequence bs) (sequence-assigns sig bs p) (sequence-solves sig bs p);
-    general = λ σ a u. sequence-general σ bs (g σ a u);
-  }
+  assigns = sequence-assigns sig bs p;
+  unifies = f (sequence bs) (sequence-assigns sig bs p) (sequence-solves sig bs p);
+  general = λ σ a u. sequence-general σ bs (g σ a u);
+}
 
 -- size: a variable's cells stand within those of a term that has it
 pub apply-length : (σ : Subst) (c : Cell) (cs : List Cell) → length (apply σ (c ∷ cs)) ≡ length (image σ c) + length (apply σ cs)

@@ -2,7 +2,7 @@
 use mathlib.Core.Path.{_≡_}
 use mathlib.Core.List.{List, [], _∷_, _++_}
 use Prim.Native.Nat.{ℕ, _+_, _<_, _≤_, min}
-use lib.ListN.{length, getD, take, drop}
+use lib.ListN.{length, take, drop}
 use Rattle.terms.specs.declared.cell.Cell.{Cell}
 use Rattle.terms.specs.Terms.{Subst}
 use Rattle.unification.specs.Fronts.{at}

@@ -39,7 +39,10 @@ fn number_next() -> Result<(), Fail> {
     check_eq(Number.next(condition(b'B', 1, 5), 6), None)?;
     check_eq(Number.next(condition(b'B', 5, 1), 0), None)?;
     check_eq(Number.next(condition(b'X', 3, 0), 3), Some(4))?;
-    check_eq(Number.next(condition(b'X', 999_999_999, 0), 999_999_999), None)?;
+    check_eq(
+        Number.next(condition(b'X', 999_999_999, 0), 999_999_999),
+        None,
+    )?;
     check_eq(Number.next(condition(b'X', 0, 0), 4_294_967_295), None)
 }
 
@@ -93,7 +96,13 @@ fn smallest_values() -> Result<(), Fail> {
         code: 2,
     };
     check_eq(smallest_value(&ALL_KINDS, between, &[not_one]), Some(two))?;
-    check_eq(smallest_value(&ALL_KINDS, between, &[not_one, not_two]), None)?;
-    check_eq(smallest_value(&ALL_KINDS, between, &[condition(b'M', 6, 0)]), None)?;
+    check_eq(
+        smallest_value(&ALL_KINDS, between, &[not_one, not_two]),
+        None,
+    )?;
+    check_eq(
+        smallest_value(&ALL_KINDS, between, &[condition(b'M', 6, 0)]),
+        None,
+    )?;
     check_eq(smallest_value(&ALL_KINDS, condition(b'Q', 0, 0), &[]), None)
 }

@@ -11,11 +11,11 @@ use terms::cell::CellDebug;
 use terms::cell::CellPartialEq;
 use terms::constraint::Constraint;
 use terms::constraint::NO_CONSTRAINT;
-use terms::equal::RowPartialEq;
 use terms::fault::PatternFaultDebug;
 use terms::fault::PatternFaultRefusal;
 use terms::pattern::Pattern;
 use terms::row::Row;
+use terms::rows::RowPartialEq;
 use terms::signature::Signature;
 
 fn cell(letter: u8, number: u32) -> Cell {
@@ -87,7 +87,10 @@ fn structure_of_patterns() -> Result<(), Fail> {
     check_eq(pattern_refusal(&[s2, n1], &[]), (21, 2))?;
     check_eq(pattern_refusal(&[s2, n1, n1], &[]), (0, 0))?;
     check_eq(pattern_refusal(&[s2, n1, n1, n1], &[]), (21, 3))?;
-    check_eq(pattern_refusal(&[s2, cell(b'V', 7), cell(b'V', 8)], &[]), (21, 2))?;
+    check_eq(
+        pattern_refusal(&[s2, cell(b'V', 7), cell(b'V', 8)], &[]),
+        (21, 2),
+    )?;
     check_eq(pattern_refusal(&[s2, cell(b'S', 32), n1], &[]), (21, 1))?;
     check_eq(pattern_refusal(&[s2, cell(b'S', 31), n1], &[]), (0, 0))
 }
@@ -96,10 +99,19 @@ fn structure_of_patterns() -> Result<(), Fail> {
 fn values_before_structure() -> Result<(), Fail> {
     let s2 = cell(b'S', 2);
     let n1 = cell(b'N', 1);
-    check_eq(pattern_refusal(&[s2, cell(b'N', 1_000_000_000), n1], &[]), (20, 1))?;
-    check_eq(pattern_refusal(&[s2, n1, n1, cell(b'H', 168)], &[]), (20, 3))?;
+    check_eq(
+        pattern_refusal(&[s2, cell(b'N', 1_000_000_000), n1], &[]),
+        (20, 1),
+    )?;
+    check_eq(
+        pattern_refusal(&[s2, n1, n1, cell(b'H', 168)], &[]),
+        (20, 3),
+    )?;
     check_eq(pattern_refusal(&[cell(b' ', 0)], &[]), (20, 0))?;
-    check_eq(pattern_refusal(&[s2, cell(b'H', 167), cell(b'C', 23)], &[]), (0, 0))?;
+    check_eq(
+        pattern_refusal(&[s2, cell(b'H', 167), cell(b'C', 23)], &[]),
+        (0, 0),
+    )?;
     check_eq(row_refusal(&[s2, cell(b'V', 0), n1]), (21, 1))
 }
 
@@ -163,5 +175,8 @@ fn rows_are_equal_by_their_cells() -> Result<(), Fail> {
     check(one == same)?;
     check(one != other)?;
     check_eq(one.cells().len(), 2)?;
-    check_eq(Pattern::from_row(&one).cells().first().copied(), Some(cell(b'S', 3)))
+    check_eq(
+        Pattern::from_row(&one).cells().first().copied(),
+        Some(cell(b'S', 3)),
+    )
 }

@@ -1,13 +1,12 @@
-use mathlib.Core.Path.{_≡_, refl, sym, _∙_, ap}
+use mathlib.Core.Path.{sym, _∙_, ap}
 use mathlib.Core.List.{List}
-use mathlib.Core.Bool.{Bool, true, false}
-use Prim.Native.Nat.{ℕ, _+_, _<_, _≤_}
+use Prim.Native.Nat.{ℕ, _+_, _<_}
 use native.Mathlib.Omega.{arith}
 use lib.ListN.{length, take, length-set}
 use Rattle.std.proofs.shelf.Lists.{take-all}
 use Rattle.std.proofs.shelf.Tests.{eq-eqb, ne-eqb}
 use Rattle.terms.specs.declared.constraint.Constraint.{Constraint}
-use Rattle.compare.specs.Roots.{on-class, class-conditions, constraint-at, stands-for}
+use Rattle.compare.specs.Roots.{class-conditions, constraint-at, stands-for}
 use Rattle.compare.proofs.Gathers.{gathered, passed-over}
 use Rattle.compare.proofs.classes.gather.Needs as need
 use Rattle.compare.proofs.classes.gather.Needs.{in-Variable·then-z-y, in-Variable·else-z-y, in-rest}
@@ -23,21 +22,24 @@ loop-constraint-again c =
     let inv = c .loop-constraint .inv in
     let here : i < length ks = omega arith in
     elim (c .match-roots-constraint .came) [
-      in-Variable·then-z-y w ↦
-        (ap length (w .conditions-is) ∙ length-set qs n (constraint-at ks i .condition) ∙ inv .0,
-         omega (arith, w .count-is, inv .1),
-         ap (λ (m : ℕ). take m (c .match-roots-constraint .conditions)) (w .count-is) ∙ ap (take (n + 1)) (w .conditions-is)
-         ∙ gathered rs ks y i here (ap (stands-for y) (w .in-Variable .is) ∙ eq-eqb (w .in-Variable .z) y (w .if-z-y .taken)) qs n (omega (arith, inv, c .pre .few)) (inv .2))
-    | in-Variable·else-z-y w ↦
-        (ap length (w .conditions-is) ∙ inv .0,
-         omega (arith, w .count-is, inv .1),
-         ap (λ (m : ℕ). take m (c .match-roots-constraint .conditions)) (w .count-is) ∙ ap (take n) (w .conditions-is) ∙ inv .2
-         ∙ sym (passed-over rs ks y i here (ap (stands-for y) (w .in-Variable .is) ∙ ne-eqb (w .in-Variable .z) y (w .if-z-y .left))))
-    | in-rest w ↦
-        (ap length (w .conditions-is) ∙ inv .0,
-         omega (arith, w .count-is, inv .1),
-         ap (λ (m : ℕ). take m (c .match-roots-constraint .conditions)) (w .count-is) ∙ ap (take n) (w .conditions-is) ∙ inv .2
-         ∙ sym (passed-over rs ks y i here (ap (stands-for y) (w .in-rest .is))))
+      | in-Variable·then-z-y w ↦ (
+        ap length (w .conditions-is) ∙ length-set qs n (constraint-at ks i .condition) ∙ inv .0,
+        omega (arith, w .count-is, inv .1),
+        ap (λ (m : ℕ). take m (c .match-roots-constraint .conditions)) (w .count-is) ∙ ap (take (n + 1)) (w .conditions-is)
+            ∙ gathered rs ks y i here (ap (stands-for y) (w .in-Variable .is) ∙ eq-eqb (w .in-Variable .z) y (w .if-z-y .taken)) qs n (omega (arith, inv, c .pre .few)) (inv .2),
+      )
+      | in-Variable·else-z-y w ↦ (
+        ap length (w .conditions-is) ∙ inv .0,
+        omega (arith, w .count-is, inv .1),
+        ap (λ (m : ℕ). take m (c .match-roots-constraint .conditions)) (w .count-is) ∙ ap (take n) (w .conditions-is) ∙ inv .2
+            ∙ sym (passed-over rs ks y i here (ap (stands-for y) (w .in-Variable .is) ∙ ne-eqb (w .in-Variable .z) y (w .if-z-y .left))),
+      )
+      | in-rest w ↦ (
+        ap length (w .conditions-is) ∙ inv .0,
+        omega (arith, w .count-is, inv .1),
+        ap (λ (m : ℕ). take m (c .match-roots-constraint .conditions)) (w .count-is) ∙ ap (take n) (w .conditions-is) ∙ inv .2
+            ∙ sym (passed-over rs ks y i here (ap (stands-for y) (w .in-rest .is))),
+      )
     ]
 
 pub returns : need.returns

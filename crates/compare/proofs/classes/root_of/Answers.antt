@@ -1,5 +1,5 @@
-use mathlib.Core.Path.{_≡_, refl, sym, _∙_, ap}
-use Prim.Native.Nat.{ℕ, _<_}
+use mathlib.Core.Path.{sym, _∙_, ap}
+use Prim.Native.Nat.{ℕ}
 use native.Mathlib.Omega.{arith}
 use Rattle.terms.specs.Terms.{apply}
 use Rattle.unification.specs.Fronts.{part}
@@ -13,7 +13,9 @@ returns-then-cells-p-eq86 c =
     let p : ℕ = c .deref-p .result in
     let d = c .deref-p .ensures in
     let v = c .if-cells-p-eq86 .taken in
-    let o = c .in-Some .ensures tt in
-    (c .pre .good .vars p (d .rooted .0) v, d .rooted .1 v,
-     λ σ s. s (c .args .x) (c .pre .small) (omega (arith, o)) ∙ ap (λ (k : ℕ). apply σ (part sig cells k 1)) (sym (o .0)) ∙ d .means σ s
-       ∙ part-var sig cells p σ (c .pre .good .whole p (d .rooted .0)) v)
+    let o = c .in-Some .ensures tt in (
+      c .pre .good .vars p (d .rooted .0) v,
+      d .rooted .1 v,
+      λ σ s. s (c .args .x) (c .pre .small) (omega (arith, o)) ∙ ap (λ (k : ℕ). apply σ (part sig cells k 1)) (sym (o .0)) ∙ d .means σ s
+          ∙ part-var sig cells p σ (c .pre .good .whole p (d .rooted .0)) v,
+    )

@@ -1,8 +1,8 @@
-use mathlib.Core.Path.{_≡_, refl, sym, _∙_, ap, subst}
-use Prim.Native.Nat.{ℕ, _+_, _<_}
+use mathlib.Core.Path.{sym, _∙_, subst}
+use Prim.Native.Nat.{ℕ}
 use native.Mathlib.Omega.{arith}
 use borrow.Author.Count.{below-more}
-use lib.ListN.{length, set, length-set}
+use lib.ListN.{set, length-set}
 use Rattle.std.proofs.shelf.Lists.{getD-set-same, getD-set-other}
 use Rattle.compare.specs.declared.classes.Root.the-variants.{Variable}
 use Rattle.compare.specs.Roots.{Root-of, root-at}
@@ -15,8 +15,9 @@ loop-x-again c =
     let sheet = c .args .sheet .now in
     let rs = c .loop-x .roots in
     let x = c .loop-x .x in
-    let r = c .root-of .result in
-    (length-set rs x r ∙ c .loop-x .inv .0,
-     below-more (λ (y : ℕ). Root-of sig cells sheet y (root-at (set rs x r) y)) x
-       (λ y h. subst (Root-of sig cells sheet y) (sym (getD-set-other rs x y r (Variable 0) (omega arith))) (c .loop-x .inv .1 y h))
-       (subst (Root-of sig cells sheet x) (sym (getD-set-same rs x r (Variable 0) (omega arith))) (c .root-of .ensures)))
+    let r = c .root-of .result in (
+      length-set rs x r ∙ c .loop-x .inv .0,
+      below-more (λ (y : ℕ). Root-of sig cells sheet y (root-at (set rs x r) y)) x
+          (λ y h. subst (Root-of sig cells sheet y) (sym (getD-set-other rs x y r (Variable 0) (omega arith))) (c .loop-x .inv .1 y h))
+          (subst (Root-of sig cells sheet x) (sym (getD-set-same rs x r (Variable 0) (omega arith))) (c .root-of .ensures)),
+    )

@@ -1,9 +1,9 @@
 use mathlib.Core.Path.{_≡_, refl, sym, _∙_, ap, subst}
-use mathlib.Core.List.{List, [], _∷_, _++_, map, append-assoc, append-nil}
-use Prim.Native.Nat.{ℕ, _+_, _<_, _≤_}
+use mathlib.Core.List.{[], _∷_, _++_, map, append-assoc, append-nil}
+use Prim.Native.Nat.{ℕ, _+_, _<_}
 use native.Mathlib.Nat.{add-assoc}
 use native.Mathlib.Omega.{arith}
-use lib.ListN.{length, take, getD, set, length-set}
+use lib.ListN.{length, take, set, length-set}
 use Rattle.std.proofs.shelf.Lists.{take-more, take-more-set, take-all, map-more, length-replicate}
 use Rattle.std.proofs.shelf.Elements.{all-getD}
 use Rattle.compare.proofs.lay.lay.Needs as need
@@ -18,19 +18,21 @@ loop-i-again g c =
     let i : ℕ = c .loop-i .i in
     let x = c .index-left-i .result in
     let l : i < length xs = omega arith in
-    let m : i < length laid = omega (arith, c .pre .few) in
-    (length-set laid i x ∙ c .loop-i .inv .0,
-     take-more-set laid i x m
-     ∙ ap (λ ys. ys ++ (x ∷ [])) (c .loop-i .inv .1)
-     ∙ ap (λ y. take i xs ++ (y ∷ [])) (c .index-left-i .is)
-     ∙ sym (take-more xs i x l))
+    let m : i < length laid = omega (arith, c .pre .few) in (
+      length-set laid i x ∙ c .loop-i .inv .0,
+      take-more-set laid i x m
+          ∙ ap (λ ys. ys ++ (x ∷ [])) (c .loop-i .inv .1)
+          ∙ ap (λ y. take i xs ++ (y ∷ [])) (c .index-left-i .is)
+          ∙ sym (take-more xs i x l),
+    )
 
 pub loop-j-holds : need.loop-j-holds
 loop-j-holds g c =
     let xs = c .args .left .now in
-    let e : c .loop-i .i ≡ length xs + 0 = omega arith in
-    (c .loop-i .inv .0,
-     ap (λ (k : ℕ). take k (c .loop-i .laid)) (sym e) ∙ c .loop-i .inv .1 ∙ take-all (c .loop-i .i) xs (omega arith) ∙ sym (append-nil xs))
+    let e : c .loop-i .i ≡ length xs + 0 = omega arith in (
+      c .loop-i .inv .0,
+      ap (λ (k : ℕ). take k (c .loop-i .laid)) (sym e) ∙ c .loop-i .inv .1 ∙ take-all (c .loop-i .i) xs (omega arith) ∙ sym (append-nil xs),
+    )
 
 pub shift-requires : need.shift-requires
 shift-requires g c κs =
@@ -48,14 +50,15 @@ loop-j-again g c =
     let y = c .index-right-j .result in
     let r = c .shift .result in
     let l : j < length ys = omega arith in
-    let m : n + j < length laid = omega (arith, c .pre .few) in
-    (length-set laid (n + j) r ∙ c .loop-j .inv .0,
-     ap (λ (k : ℕ). take k (set laid (n + j) r)) (sym (add-assoc n j 1))
-     ∙ take-more-set laid (n + j) r m
-     ∙ ap (λ zs. zs ++ (r ∷ [])) (c .loop-j .inv .1)
-     ∙ append-assoc xs (map f (take j ys)) (r ∷ [])
-     ∙ ap (λ d. xs ++ (map f (take j ys) ++ (d ∷ []))) (c .shift .ensures ∙ ap f (c .index-right-j .is))
-     ∙ ap (λ zs. xs ++ zs) (sym (map-more f ys j y l)))
+    let m : n + j < length laid = omega (arith, c .pre .few) in (
+      length-set laid (n + j) r ∙ c .loop-j .inv .0,
+      ap (λ (k : ℕ). take k (set laid (n + j) r)) (sym (add-assoc n j 1))
+          ∙ take-more-set laid (n + j) r m
+          ∙ ap (λ zs. zs ++ (r ∷ [])) (c .loop-j .inv .1)
+          ∙ append-assoc xs (map f (take j ys)) (r ∷ [])
+          ∙ ap (λ d. xs ++ (map f (take j ys) ++ (d ∷ []))) (c .shift .ensures ∙ ap f (c .index-right-j .is))
+          ∙ ap (λ zs. xs ++ zs) (sym (map-more f ys j y l)),
+    )
 
 pub returns : need.returns
 returns g c =

@@ -1,5 +1,4 @@
 use Prim.Native.Nat.{ℕ, _<_}
-use mathlib.Core.Path.{_≡_}
 use Rattle.unification.specs.Fronts.{part}
 use Rattle.unification.specs.Sheets.{entry}
 use Rattle.unification.specs.Orders.{Has, Is-open}

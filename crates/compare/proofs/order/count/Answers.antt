@@ -1,6 +1,6 @@
-use mathlib.Core.Path.{_≡_, refl, sym, _∙_, ap, subst}
-use mathlib.Core.Bool.{Bool, true, false, cond}
-use Prim.Native.Nat.{ℕ, _+_, _-_, _<_, _≤_}
+use mathlib.Core.Path.{_≡_, ap}
+use mathlib.Core.Bool.{Bool, cond}
+use Prim.Native.Nat.{ℕ, _<_, _≤_}
 use native.Mathlib.Omega.{arith}
 use lib.ListN.{length, drop}
 use Rattle.std.proofs.shelf.Lists.{drop-all}
@@ -14,8 +14,8 @@ loop-x-again c =
     let l : c .loop-x .x-index < length (c .args .wait) = omega arith in
     let e = opens-step (c .args .wait) (c .loop-x .x-index) l in
     elim (c .if-x .came) [
-      then-x w ↦ (omega (arith, w .n-is), omega (arith, w .n-is, e, ap {B = ℕ} (λ (b : Bool). cond b 1 0) (w .if-x .taken)))
-    | else-x w ↦ (omega (arith, w .n-is), omega (arith, w .n-is, e, ap {B = ℕ} (λ (b : Bool). cond b 1 0) (w .if-x .left)))
+      | then-x w ↦ (omega (arith, w .n-is), omega (arith, w .n-is, e, ap {B = ℕ} (λ (b : Bool). cond b 1 0) (w .if-x .taken)))
+      | else-x w ↦ (omega (arith, w .n-is), omega (arith, w .n-is, e, ap {B = ℕ} (λ (b : Bool). cond b 1 0) (w .if-x .left)))
     ]
 
 pub returns : need.returns

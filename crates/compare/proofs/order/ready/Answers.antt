@@ -1,10 +1,9 @@
-use mathlib.Core.Path.{_≡_, refl, sym, _∙_, ap, subst}
-use mathlib.Core.Logic.{_⊎_, inl, inr}
-use mathlib.Core.Bool.{Bool, true, false, cond}
-use Prim.Native.Nat.{ℕ, _+_, _-_, _<_, _≤_}
+use mathlib.Core.Path.{_≡_, sym, _∙_, ap}
+use mathlib.Core.Bool.{false}
+use Prim.Native.Nat.{ℕ}
 use native.Mathlib.Omega.{arith}
-use lib.ListN.{length, drop, getD}
-use Rattle.std.proofs.shelf.Tests.{false≢true, true≢false}
+use lib.ListN.{drop, getD}
+use Rattle.std.proofs.shelf.Tests.{true≢false}
 use Rattle.unification.specs.Fronts.{at}
 use Rattle.unification.proofs.Places.{step}
 use Rattle.unification.proofs.Lines.{lacks-more, has-more, has-here, lacks-none}
@@ -28,9 +27,12 @@ index-wait-c c =
 
 pub returns-then-wait-c : need.returns-then-wait-c
 returns-then-wait-c c =
-    let s = step (c .args .signature .now .arities) (c .args .cells .now) (c .loop-left .at) (c .loop-left .left) (c .loop-left .inv .0) (c .loop-left-test .taken) in
-    (at (c .args .cells .now) (c .loop-left .at) .number, c .pre .good .vars (c .loop-left .at) (s .within) (c .if-c-eq86 .taken), c .if-wait-c .taken,
-     c .loop-left .inv .2 _ (has-here (c .args .signature .now .arities) (c .args .cells .now) (c .loop-left .at) (c .loop-left .left) (c .loop-left .inv .0) (c .loop-left-test .taken) (c .if-c-eq86 .taken)))
+    let s = step (c .args .signature .now .arities) (c .args .cells .now) (c .loop-left .at) (c .loop-left .left) (c .loop-left .inv .0) (c .loop-left-test .taken) in (
+      at (c .args .cells .now) (c .loop-left .at) .number,
+      c .pre .good .vars (c .loop-left .at) (s .within) (c .if-c-eq86 .taken),
+      c .if-wait-c .taken,
+      c .loop-left .inv .2 _ (has-here (c .args .signature .now .arities) (c .args .cells .now) (c .loop-left .at) (c .loop-left .left) (c .loop-left .inv .0) (c .loop-left-test .taken) (c .if-c-eq86 .taken)),
+    )
 
 pub add-left : need.add-left
 add-left c =
@@ -50,14 +52,15 @@ loop-left-less c =
 pub loop-left-again : need.loop-left-again
 loop-left-again c =
     let s = step (c .args .signature .now .arities) (c .args .cells .now) (c .loop-left .at) (c .loop-left .left) (c .loop-left .inv .0) (c .loop-left-test .taken) in
-    let e = c .arity .ensures .value in
-    (rw e (s .begins),
-     (λ y o k. c .loop-left .inv .1 y o (lacks-more (c .args .signature .now .arities) (c .args .cells .now) (c .loop-left .at) (c .loop-left .left) y (c .loop-left .inv .0) (c .loop-left-test .taken)
-       (λ v f. elim (c .else-c-eq86 .came) [
-           else-c-eq86·by·then-c-eq86·else-wait-c w ↦ true≢false (sym o ∙ ap (λ (z : ℕ). getD (c .args .wait) z false) (sym f) ∙ w .if-wait-c .left)
-         | else-c-eq86·by·else-c-eq86 w ↦ w .if-c-eq86 .left v
-         ]) (rw e at k))),
-     (λ y h. c .loop-left .inv .2 y (has-more (c .args .signature .now .arities) (c .args .cells .now) (c .loop-left .at) (c .loop-left .left) y (c .loop-left .inv .0) (c .loop-left-test .taken) (rw e at h))))
+    let e = c .arity .ensures .value in (
+      rw e (s .begins),
+      (λ y o k. c .loop-left .inv .1 y o (lacks-more (c .args .signature .now .arities) (c .args .cells .now) (c .loop-left .at) (c .loop-left .left) y (c .loop-left .inv .0) (c .loop-left-test .taken)
+          (λ v f. elim (c .else-c-eq86 .came) [
+            | else-c-eq86·by·then-c-eq86·else-wait-c w ↦ true≢false (sym o ∙ ap (λ (z : ℕ). getD (c .args .wait) z false) (sym f) ∙ w .if-wait-c .left)
+            | else-c-eq86·by·else-c-eq86 w ↦ w .if-c-eq86 .left v
+          ]) (rw e at k))),
+      (λ y h. c .loop-left .inv .2 y (has-more (c .args .signature .now .arities) (c .args .cells .now) (c .loop-left .at) (c .loop-left .left) y (c .loop-left .inv .0) (c .loop-left-test .taken) (rw e at h))),
+    )
 
 pub returns : need.returns
 returns c =

@@ -1,5 +1,4 @@
-use Prim.Native.Nat.{ℕ, _≤_, _+_, _-_}
-use mathlib.Core.Path.{_≡_}
+use Prim.Native.Nat.{ℕ, _-_}
 use lib.ListN.{length, drop}
 use Rattle.unification.specs.Fronts.{Begins, terms, part}
 use Rattle.unification.specs.Sequences.{Lacks}

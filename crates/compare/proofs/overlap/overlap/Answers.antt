@@ -1,7 +1,6 @@
 use borrow.Author.Needs.{needs}
-use mathlib.Core.Path.{_≡_, refl, sym, _∙_, ap, subst}
-use mathlib.Core.List.{List}
-use Prim.Native.Nat.{ℕ, _-_, _<_, _≤_}
+use mathlib.Core.Path.{_≡_, _∙_, ap}
+use Prim.Native.Nat.{ℕ, _-_}
 use native.Mathlib.Omega.{arith}
 use lib.ListN.{length, take, replicate}
 use Rattle.terms.specs.Fitting.{described}
@@ -85,6 +84,6 @@ returns g c =
     let blank-sheet : Blank (c .wipe .last .sheet) = c .wipe .ensures ∙ ap (λ (n : ℕ). replicate n blank) (let e : length (c .args .sheet .now) ≡ 16 = omega arith in e) in
     record {
       answer = told sig M left right (c .pre .left) (c .pre .right) cells is (j .left) (c .join-joint .ensures .left-cells) ks ki (c .wipe .last .sheet) (c .unify .last .sheet) blank-sheet
-        (c .if-not-unify .ensures tt) (c .finish .result) (c .finish .ensures);
+          (c .if-not-unify .ensures tt) (c .finish .result) (c .finish .ensures);
       blank = search needs;
     }

@@ -1,9 +1,8 @@
-use Prim.Native.Nat.{_<_, _+_, _-_}
+use Prim.Native.Nat.{_<_, _+_}
 use mathlib.Core.Path.{_≡_}
-use mathlib.Core.Logic.{_⊎_}
 use mathlib.Core.Bool.{cond}
 use lib.Dec.{eqb}
-use lib.ListN.{length, drop}
+use lib.ListN.{length}
 use Rattle.terms.specs.Terms.{Subst, apply}
 use Rattle.unification.specs.Fronts.{at, part}
 use Rattle.unification.specs.Sheets.{Sol}

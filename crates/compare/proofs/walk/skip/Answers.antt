@@ -1,11 +1,10 @@
-use borrow.Author.Needs.{needs}
-use mathlib.Core.Path.{_≡_, refl, sym, _∙_, ap, subst}
-use Prim.Native.Nat.{ℕ, _+_, _-_, _<_, _≤_, _^_}
+use mathlib.Core.Path.{_≡_, sym, _∙_, ap}
+use Prim.Native.Nat.{ℕ}
 use native.Mathlib.Omega.{arith}
-use lib.ListN.{length, drop}
+use lib.ListN.{drop}
 use Rattle.unification.specs.Fronts.{after}
 use Rattle.unification.proofs.Theory.{after-none}
-use Rattle.unification.proofs.Places.{step, Step}
+use Rattle.unification.proofs.Places.{step}
 use Rattle.compare.proofs.walk.skip.Needs as need
 
 pub index-cells-at : need.index-cells-at
@@ -17,7 +16,7 @@ add-left c =
     omega (arith, s .few, c .arity .ensures .value, c .pre .good .few)
 
 pub loop-left-less : need.loop-left-less
-loop-left-less c = 
+loop-left-less c =
     let s = step (c .args .signature .now .arities) (c .args .cells .now) (c .loop-left .at) (c .loop-left .left) (c .loop-left .inv .3) (c .loop-left-test .taken) in
     omega (arith, s .within)
 

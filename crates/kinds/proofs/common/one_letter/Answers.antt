@@ -35,6 +35,6 @@ loop-condition-again g c =
 
 pub returns : need.returns
 returns g c = (
-    sym (c .in-Continue-letter .ensures tt),
-    rw (take-all (c .loop-condition .condition-index) (c .args .rest .now) (c .loop-condition-test .left)) at (c .loop-condition .inv),
-  )
+  sym (c .in-Continue-letter .ensures tt),
+  rw (take-all (c .loop-condition .condition-index) (c .args .rest .now) (c .loop-condition-test .left)) at (c .loop-condition .inv),
+)

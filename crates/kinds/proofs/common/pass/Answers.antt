@@ -9,7 +9,7 @@ pub returns-in-Break-low : need.returns-in-Break-low
 returns-in-Break-low g c =
     rw (c .from-residual .ensures)
     (leap-none (g .K·Kind .means (c .args .kind .now)) (c .args .conditions .now) (c .loop-condition .condition-index) _
-      (c .loop-condition-test .taken) (c .args .v) (c .loop-condition .low) (c .loop-condition .inv .1) (c .in-Break-low .ensures tt))
+    (c .loop-condition-test .taken) (c .args .v) (c .loop-condition .low) (c .loop-condition .inv .1) (c .in-Break-low .ensures tt))
 
 pub loop-condition-again : need.loop-condition-again
 loop-condition-again g c =

@@ -29,15 +29,15 @@ returns-in-Break-to-come g c =
     let p = err-from-errBy (c .from-residual .result) (c .from-residual .ensures .1) in
     rw (p .1, p .2)
     (refused-here (c .args .signature .now .arities) (c .args .signature .now .nought) (g .K·Kind .means (c .args .kind .now)) (variables (c .args .shape)) (limit (c .args .shape))
-      (c .args .cells .now) (c .loop-place .place) (c .loop-place .to-come) (c .loop-place .inv) _ (c .loop-place-test .taken) (c .in-Break-to-come .field-0 .0) (c .in-Break-to-come .ensures tt))
+    (c .args .cells .now) (c .loop-place .place) (c .loop-place .to-come) (c .loop-place .inv) _ (c .loop-place-test .taken) (c .in-Break-to-come .field-0 .0) (c .in-Break-to-come .ensures tt))
 
 pub loop-place-again : need.loop-place-again
 loop-place-again g c =
     let e = c .in-Continue-to-come .ensures tt in
     subst (λ (n : ℕ). Before (c .args .signature .now .arities) (c .args .signature .now .nought) (g .K·Kind .means (c .args .kind .now)) (variables (c .args .shape)) (limit (c .args .shape))
-        (c .args .cells .now) (c .loop-place .place + 1) n) (sym (e .1))
+    (c .args .cells .now) (c .loop-place .place + 1) n) (sym (e .1))
     (before-more (c .args .signature .now .arities) (c .args .signature .now .nought) (g .K·Kind .means (c .args .kind .now)) (variables (c .args .shape)) (limit (c .args .shape))
-      (c .args .cells .now) (c .loop-place .place) (c .loop-place .to-come) (c .loop-place .inv) _ (c .loop-place-test .taken) (e .0))
+    (c .args .cells .now) (c .loop-place .place) (c .loop-place .to-come) (c .loop-place .inv) _ (c .loop-place-test .taken) (e .0))
 
 pub returns-then-to-come-gt0 : need.returns-then-to-come-gt0
 returns-then-to-come-gt0 g c =

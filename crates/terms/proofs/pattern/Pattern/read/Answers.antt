@@ -34,5 +34,5 @@ returns g c =
     let same = same-parts (take (length cs) (c .filled .result)) cs (take (length ks) (c .filled-2 .result)) ks front back in (
       same,
       subst (Proper-pattern (c .args .signature .now .arities) (g .K·Kind .means (c .args .kind .now))) (sym same)
-        (record { cells = c .in-Continue-check-cells .ensures tt; constraints = c .in-Continue-check-constraints .ensures tt }),
+          (record { cells = c .in-Continue-check-cells .ensures tt; constraints = c .in-Continue-check-constraints .ensures tt }),
     )

@@ -11,6 +11,6 @@ returns-in-Break-check-cells g c =
 
 pub returns : need.returns
 returns g c = (
-    filled-front (c .args .cells .now) (c .filled .result) _ (12 - length (c .args .cells .now)) (c .filled .ensures),
-    c .in-Continue-check-cells .ensures tt,
-  )
+  filled-front (c .args .cells .now) (c .filled .result) _ (12 - length (c .args .cells .now)) (c .filled .ensures),
+  c .in-Continue-check-cells .ensures tt,
+)
