@@ -1,6 +1,7 @@
-// Checks descriptions of rows, one on each line of the standard input, before anyone reserves by them: what each constraint
-// lets through, or the refusal with its number and place.
+// Checks descriptions of rows before anyone reserves by them. A line of the standard input has one description: what each constraint
+// lets through, or the refusal with its number and place; or two, with a bar between them: whether some row fits both, and which.
 mod notation;
+mod overlaps;
 mod words;
 
 use kinds::bank::ALL_KINDS;
@@ -133,7 +134,7 @@ fn accept(rt: &LibcRuntime, pattern: &Pattern) -> Result<(), AnyError> {
     Ok(())
 }
 
-fn refuse(rt: &LibcRuntime, fault: PatternFault) -> io::Result<()> {
+pub fn refuse(rt: &LibcRuntime, fault: PatternFault) -> io::Result<()> {
     let refusal = fault.refusal();
     let number = refusal.number;
     let what = match number {
@@ -149,18 +150,24 @@ fn refuse(rt: &LibcRuntime, fault: PatternFault) -> io::Result<()> {
     )
 }
 
-fn describe(rt: &LibcRuntime, signature: &Signature, line: &str) -> Result<(), AnyError> {
-    println!(rt, "{line}")?;
-    let written = match notation::read(rt.alloc(), line) {
-        Ok(written) => written,
+// The words of a description; none if they cannot be read, which is then said.
+pub fn read(rt: &LibcRuntime, text: &str) -> Result<Option<Written>, AnyError> {
+    match notation::read(rt.alloc(), text) {
+        Ok(written) => Ok(Some(written)),
         Err(Unread::Word(count)) => {
             println!(
                 rt,
                 "  not read: word {count} is neither a cell nor a constraint"
             )?;
-            return Ok(());
+            Ok(None)
         }
-        Err(Unread::NoMemory) => return Err("no memory".into()),
+        Err(Unread::NoMemory) => Err("no memory".into()),
+    }
+}
+
+fn describe(rt: &LibcRuntime, signature: &Signature, text: &str) -> Result<(), AnyError> {
+    let Some(written) = read(rt, text)? else {
+        return Ok(());
     };
     let kind = ALL_KINDS;
     match Pattern::read(
@@ -177,12 +184,27 @@ fn describe(rt: &LibcRuntime, signature: &Signature, line: &str) -> Result<(), A
     }
 }
 
+// A line has one description or two.
+fn answer(rt: &LibcRuntime, signature: &Signature, line: &str) -> Result<(), AnyError> {
+    println!(rt, "{line}")?;
+    let mut parts = line.split('|');
+    let first = parts.next().unwrap_or("");
+    let Some(second) = parts.next() else {
+        return describe(rt, signature, first);
+    };
+    if parts.next().is_some() {
+        println!(rt, "  not read: there is more than one bar")?;
+        return Ok(());
+    }
+    overlaps::compare_two(rt, &ARITIES, first, second)
+}
+
 fn run(rt: &LibcRuntime) -> Result<(), AnyError> {
     let Ok(signature) = Signature::new(ARITIES) else {
         return Err("the model base's arities are not allowed".into());
     };
     for line in rt.lines(rt.alloc()) {
-        describe(rt, &signature, line?.as_str())?;
+        answer(rt, &signature, line?.as_str())?;
     }
     Ok(())
 }
