@@ -57,8 +57,8 @@ module _ {K : Type 0} (means : K → Meaning) (kind : K) (arities : List ℕ) (f
       → Well means manager′ x′ → Fixed manager manager′ → Going calls (set answers i a) (i + 1) manager′ x′ m′
   going-next calls answers i manager manager′ x x′ m m′ d a l l′ g s w f =
       let s′ : Steps (language arities (means kind)) (book-of manager x) (book-of manager′ x′) m m′ (asked-by (getD calls i d)) (says a) =
-          subst (λ sig. Steps (language sig (means kind)) (book-of manager x) (book-of manager′ x′) m m′ (asked-by (getD calls i d)) (says a)) (g .signature)
-          (subst (λ k. Steps (language (manager .signature .arities) (means k)) (book-of manager x) (book-of manager′ x′) m m′ (asked-by (getD calls i d)) (says a)) (g .values) s) in
+      subst (λ sig. Steps (language sig (means kind)) (book-of manager x) (book-of manager′ x′) m m′ (asked-by (getD calls i d)) (says a)) (g .signature)
+      (subst (λ k. Steps (language (manager .signature .arities) (means k)) (book-of manager x) (book-of manager′ x′) m m′ (asked-by (getD calls i d)) (says a)) (g .values) s) in
       record {
         history = s′ .event ∷ g .history;
         asked-are = ap₂ (λ p q. p ∷ q) (s′ .call) (g .asked-are)

@@ -4,3 +4,6 @@ mod Going
 mod Passes
 mod Opens
 mod Reserves
+mod Rows
+mod Changes
+mod Counting

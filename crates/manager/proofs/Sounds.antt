@@ -1,6 +1,6 @@
 -- What each call makes of the book keeps it sound.
 use mathlib.Core.Path.{_≡_, refl, sym, _∙_, ap, subst}
-use mathlib.Core.Logic.{_⊎_, inl, inr, ⊎-elim}
+use mathlib.Core.Logic.{_⊎_, inl, inr, ⊎-elim, by-cases}
 use mathlib.Core.Bool.{Bool, not, true, false, cond}
 use mathlib.Core.List.{List, [], _∷_, _++_, map}
 use Prim.Native.Nat.{ℕ, suc, _+_, _<_, _≤_}
@@ -22,11 +22,18 @@ use Rattle.manager.specs.declared.entry.Transaction.{Transaction}
 use Rattle.manager.specs.declared.entry.Reservation.{Reservation}
 use Rattle.manager.specs.declared.entry.PendingChange.{PendingChange}
 use Rattle.manager.specs.Words.{pending-of}
-use Rattle.manager.specs.Book.{Book, Given, Sound}
+use Rattle.manager.specs.declared.memory.Memory.{Memory}
+use Rattle.manager.specs.declared.state.Manager.{Manager}
+use Rattle.manager.specs.Book.{Book, Given, Sound, Fixed, book-of}
 use Rattle.terms.specs.Fitting.{described}
 use Rattle.terms.specs.Proper.{Proper-pattern}
 use Rattle.manager.specs.Ending.{Begun, ended}
+use Rattle.terms.specs.Proper.{Row-cells}
+use Rattle.stores.specs.Rows.{cells-of, decided}
+use Rattle.serial.specs.Rights.{Change}
+use Rattle.serial.proofs.Rolls.{keys-enter}
 use Rattle.manager.specs.Reserving.{Reserved, tallied}
+use Rattle.manager.specs.Looking.{Changed}
 
 -- where there is a place, a push is not refused
 pub pushed-there : {E : Type 0} (n : ℕ) (memory : List E) (n′ : ℕ) (memory′ : List E) (e : E) (r : Result (Unit {0}) Full) → n < length memory
@@ -66,8 +73,8 @@ module _ (sig : List ℕ) (M : Meaning) (b b′ : Book) (sound : Sound sig M b) 
       let new : Transaction = record { number = n; planner = planner } in
       let l = b .last-transaction in
       let given : Given n (map (λ t. t .number) (b .transactions ++ (new ∷ []))) =
-          subst (λ k. Given k (map (λ t. t .number) (b .transactions ++ (record { number = k; planner = planner } ∷ [])))) (sym (e .next))
-          (subst (λ ns. Given (suc l) ns) (sym (map-append (λ t. t .number) (b .transactions) (record { number = suc l; planner = planner } ∷ []))) (given-push l (map (λ t. t .number) (b .transactions)) (sound .transactions))) in
+      subst (λ k. Given k (map (λ t. t .number) (b .transactions ++ (record { number = k; planner = planner } ∷ [])))) (sym (e .next))
+      (subst (λ ns. Given (suc l) ns) (sym (map-append (λ t. t .number) (b .transactions) (record { number = suc l; planner = planner } ∷ []))) (given-push l (map (λ t. t .number) (b .transactions)) (sound .transactions))) in
       subst (Sound sig M) (sym (e .book))
       (record { transactions = given; reservations = sound .reservations; keys = sound .keys; patterns = sound .patterns; rows = sound .rows })
 
@@ -75,9 +82,9 @@ module _ (sig : List ℕ) (M : Meaning) (b b′ : Book) (sound : Sound sig M b) 
   sound-reserved t letter n p proper e =
       let l = b .last-reservation in
       let given : Given n (map (λ r. r .number) (b .reservations ++ (e .entry ∷ []))) =
-          subst (λ ns. Given n ns) (sym (map-append (λ r. r .number) (b .reservations) (e .entry ∷ [])))
-          (subst (λ k. Given n (map (λ r. r .number) (b .reservations) ++ (k ∷ []))) (sym (e .numbered))
-          (subst (λ k. Given k (map (λ r. r .number) (b .reservations) ++ (k ∷ []))) (sym (e .next)) (given-push l (map (λ r. r .number) (b .reservations)) (sound .reservations)))) in
+      subst (λ ns. Given n ns) (sym (map-append (λ r. r .number) (b .reservations) (e .entry ∷ [])))
+      (subst (λ k. Given n (map (λ r. r .number) (b .reservations) ++ (k ∷ []))) (sym (e .numbered))
+      (subst (λ k. Given k (map (λ r. r .number) (b .reservations) ++ (k ∷ []))) (sym (e .next)) (given-push l (map (λ r. r .number) (b .reservations)) (sound .reservations)))) in
       subst (Sound sig M) (sym (e .book)) (record {
         transactions = sound .transactions;
         reservations = given;
@@ -89,6 +96,15 @@ module _ (sig : List ℕ) (M : Meaning) (b b′ : Book) (sound : Sound sig M b) 
   pub sound-tallied : b′ ≡ tallied b → Sound sig M b′
   sound-tallied e = subst (Sound sig M) (sym e) (record { transactions = sound .transactions; reservations = sound .reservations; keys = sound .keys; patterns = sound .patterns; rows = sound .rows })
 
+  pub sound-changed : (t : ℕ) (row : List Rattle.terms.specs.declared.cell.Cell.Cell) (a : Change) → Row-cells sig M row → Changed t row a b b′ → Sound sig M b′
+  sound-changed t row a proper e = subst (Sound sig M) (sym (e .book)) (record {
+    transactions = sound .transactions;
+    reservations = sound .reservations;
+    keys = subst (λ l. KeysOnce l) (sym (e .changes)) (keys-enter decided t row a (map pending-of (b .changes)) (sound .keys));
+    patterns = sound .patterns;
+    rows = λ c i. by-cases (decided (cells-of (c .row)) row) (λ z. subst (Row-cells sig M) (sym z) proper) (λ ne. sound .rows c (e .rows c i ne));
+  })
+
   pub sound-ended : (t k : ℕ) → b′ ≡ ended t k b → Sound sig M b′
   sound-ended t k e =
       let mine : PendingChange → Bool = λ c. not (eqb (c .owner) t) in
@@ -99,3 +115,13 @@ module _ (sig : List ℕ) (M : Meaning) (b b′ : Book) (sound : Sound sig M b) 
         patterns = λ r i. sound .patterns r (in-kept (λ r. not (eqb (r .owner) t)) (b .reservations) r i .0);
         rows = λ c i. sound .rows c (in-kept mine (b .changes) c i .0);
       })
+
+-- under the same signature and kind
+module _ {K : Type 0} (means : K → Meaning) (m m′ : Manager K) where
+  pub fixed-sound : (b : Book) → Fixed m m′ → Sound (m .signature .arities) (means (m .kind)) b → Sound (m′ .signature .arities) (means (m′ .kind)) b
+  fixed-sound b f s =
+      subst (λ z. Sound (z .arities) (means (m′ .kind)) b) (sym (f .signature)) (subst (λ z. Sound (m .signature .arities) (means z) b) (sym (f .kind)) s)
+
+  pub moved-sound : (x x′ : Memory) → Fixed m m′ → book-of m′ x′ ≡ book-of m x → Sound (m .signature .arities) (means (m .kind)) (book-of m x)
+      → Sound (m′ .signature .arities) (means (m′ .kind)) (book-of m′ x′)
+  moved-sound x x′ f e s = fixed-sound (book-of m′ x′) f (subst (Sound (m .signature .arities) (means (m .kind))) (sym e) s)

@@ -29,25 +29,27 @@ pub record Book : Type 0 where
   pub tally : ℕ
 
 abbrev pub book-of : {K : Type 0} → Manager K → Memory → Book
-book-of m x = record
-    { transactions = take (m .transactions .len) (now (x .transactions))
-    ; reservations = take (m .reservations .len) (now (x .reservations))
-    ; changes = take (m .changes .len) (now (x .changes))
-    ; last-transaction = m .«last_transaction»
-    ; last-reservation = m .«last_reservation»
-    ; last-commit = m .«last_commit»
-    ; tally = m .tally }
+book-of m x = record {
+  transactions = take (m .transactions .len) (now (x .transactions));
+  reservations = take (m .reservations .len) (now (x .reservations));
+  changes = take (m .changes .len) (now (x .changes));
+  last-transaction = m .«last_transaction»;
+  last-reservation = m .«last_reservation»;
+  last-commit = m .«last_commit»;
+  tally = m .tally;
+}
 
 -- the state of the serial order's machine, over the store's map
 abbrev pub state-of : Book → Map (List Cell) → State (List Cell) Description
-state-of b m = record
-    { opens = map (λ t. t .number) (b .transactions)
-    ; held = map grant-of (b .reservations)
-    ; pending = map pending-of (b .changes)
-    ; lastTransaction = b .last-transaction
-    ; lastReservation = b .last-reservation
-    ; lastCommit = b .last-commit
-    ; store = m }
+state-of b m = record {
+  opens = map (λ t. t .number) (b .transactions);
+  held = map grant-of (b .reservations);
+  pending = map pending-of (b .changes);
+  lastTransaction = b .last-transaction;
+  lastReservation = b .last-reservation;
+  lastCommit = b .last-commit;
+  store = m;
+}
 
 -- each roll's memory has its size
 pub record Sizes (x : Memory) : Type 0 where

@@ -5,6 +5,7 @@ use mathlib.Core.List.{List, [], _∷_, map, reverse}
 use Prim.Native.Nat.{ℕ, min}
 use denote.Ref.{now}
 use lib.ListN.{length, take}
+use Rattle.std.specs.Options.{mapped}
 use Rattle.std.specs.declared.option.Option.{Option}
 use Rattle.std.specs.declared.result.Result.{Result}
 use Rattle.std.specs.declared.result.Result.the-variants.{Ok, Err}
@@ -16,6 +17,7 @@ use Rattle.terms.specs.declared.fault.PatternFault.the-variants.{Arity}
 use Rattle.terms.specs.Fitting.{Description}
 use Rattle.terms.specs.Proper.{Arities}
 use Rattle.compare.specs.declared.sample.Sample.{Sample}
+use Rattle.stores.specs.Means.{count-of}
 use Rattle.serial.specs.Language.{Language}
 use Rattle.serial.specs.Rights.{Change.written, Change.struck}
 use Rattle.serial.specs.History as words
@@ -25,9 +27,9 @@ use Rattle.serial.specs.History.{Deed.looked, Deed.surveyed, Deed.changed}
 use Rattle.serial.specs.Machine.{Moves}
 use Rattle.serial.specs.Serial.{Serial}
 use Rattle.manager.specs.declared.call.Call.{Call}
-use Rattle.manager.specs.declared.call.Call.the-variants.{Begin, Reserve, Commit, Abandon}
+use Rattle.manager.specs.declared.call.Call.the-variants.{Begin, Reserve, Look, Survey, Write, Strike, Commit, Abandon}
 use Rattle.manager.specs.declared.call.Answer.{Answer}
-use Rattle.manager.specs.declared.call.Answer.the-variants.{Refused, Number}
+use Rattle.manager.specs.declared.call.Answer.the-variants.{Refused, Number, Found, Figures, Done}
 use Rattle.manager.specs.declared.fault.ManagerFault.{ManagerFault}
 use Rattle.manager.specs.declared.fault.ManagerFault.the-variants.{Pattern}
 use Rattle.manager.specs.declared.memory.Memory.{Memory}
@@ -42,6 +44,10 @@ use Rattle.manager.specs.Ending.{sizes}
 abbrev pub asked-by : Call → words.Call (List Cell) Description
 asked-by (Begin planner) = words.Call.begin planner
 asked-by (Reserve t letter cells constraints) = words.Call.reserve t letter (record { cells = now cells; constraints = now constraints })
+asked-by (Look t cells) = words.Call.look t (now cells)
+asked-by (Survey t n) = words.Call.survey t n
+asked-by (Write t cells k) = words.Call.write t (now cells) k
+asked-by (Strike t cells) = words.Call.strike t (now cells)
 asked-by (Commit t) = words.Call.commit t
 asked-by (Abandon t) = words.Call.abandon t
 
@@ -68,6 +74,9 @@ told (abandoned t n) = number n
 abbrev pub says : Answer → Reply
 says (Refused f) = refused-with (manager-refusal f .number)
 says (Number n) = number n
+says (Found v) = count (mapped count-of v)
+says (Figures rows total) = figures rows total
+says Done = done
 
 -- one call's promise: an event with this call and this answer takes the machine from the one state to the other
 pub record Steps (L : Language (List Cell) Description) (b b′ : Book) (m m′ : Map (List Cell)) (c : words.Call (List Cell) Description) (r : Reply) : Type 0 where

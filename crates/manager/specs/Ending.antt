@@ -40,25 +40,27 @@ begin-checks x b planner =
 -- the next number is open, for the planner, and all else is as it was
 pub record Begun (planner : ℕ) (b b′ : Book) (number : ℕ) : Type 0 where
   pub next : number ≡ suc (b .last-transaction)
-  pub book : b′ ≡ record
-      { transactions = b .transactions ++ (record { number = number; planner = planner } ∷ [])
-      ; reservations = b .reservations
-      ; changes = b .changes
-      ; last-transaction = number
-      ; last-reservation = b .last-reservation
-      ; last-commit = b .last-commit
-      ; tally = b .tally }
+  pub book : b′ ≡ record {
+    transactions = b .transactions ++ (record { number = number; planner = planner } ∷ []);
+    reservations = b .reservations;
+    changes = b .changes;
+    last-transaction = number;
+    last-reservation = b .last-reservation;
+    last-commit = b .last-commit;
+    tally = b .tally;
+  }
 
 -- the book without the entries of t, the others in their order, and with this last commit
 abbrev pub ended : ℕ → ℕ → Book → Book
-ended t commit b = record
-    { transactions = without (λ e. e .number) t (b .transactions)
-    ; reservations = without (λ e. e .owner) t (b .reservations)
-    ; changes = without (λ e. e .owner) t (b .changes)
-    ; last-transaction = b .last-transaction
-    ; last-reservation = b .last-reservation
-    ; last-commit = commit
-    ; tally = b .tally }
+ended t commit b = record {
+  transactions = without (λ e. e .number) t (b .transactions);
+  reservations = without (λ e. e .owner) t (b .reservations);
+  changes = without (λ e. e .owner) t (b .changes);
+  last-transaction = b .last-transaction;
+  last-reservation = b .last-reservation;
+  last-commit = commit;
+  tally = b .tally;
+}
 
 abbrev pub abandon-checks : Memory → Book → ℕ → List Check
 abandon-checks x b t = sizes x ∷ is-open t b ∷ []

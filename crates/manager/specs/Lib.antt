@@ -5,4 +5,6 @@ pub mod Checks
 pub mod Ending
 pub mod Clashes
 pub mod Reserving
+pub mod Looking
+pub mod Surveying
 pub mod Calls

@@ -38,9 +38,10 @@ Right-read letter (Err f) = (f ≡ Right) × (Names-right letter → ⊥)
 
 -- the pattern is proper, or its first fault is named (20 to 23)
 abbrev pub proper-pattern : List ℕ → Meaning → Description → Check
-proper-pattern sig M p =
-    (Proper-pattern sig M p,
-      λ f. (e : PatternFault) × (f ≡ Pattern e) × (Cells-refused (Pattern-cells sig M) M (p .cells) e ⊎ (Pattern-cells sig M (p .cells) × Constraints-refused M (p .constraints) e)))
+proper-pattern sig M p = (
+  Proper-pattern sig M p,
+  λ f. (e : PatternFault) × (f ≡ Pattern e) × (Cells-refused (Pattern-cells sig M) M (p .cells) e ⊎ (Pattern-cells sig M (p .cells) × Constraints-refused M (p .constraints) e)),
+)
 
 -- no reservation collides with the request under the right that the letter names
 abbrev pub Clear : List ℕ → Meaning → ℕ → ℕ → Description → List Reservation → Type 0
@@ -77,25 +78,27 @@ pub record Reserved (t letter : ℕ) (p : Description) (b b′ : Book) (number :
   pub pattern : described (entry .pattern) ≡ p
   pub numbered : entry .number ≡ number
   pub next : number ≡ suc (b .last-reservation)
-  pub book : b′ ≡ record
-      { transactions = b .transactions
-      ; reservations = b .reservations ++ (entry ∷ [])
-      ; changes = b .changes
-      ; last-transaction = b .last-transaction
-      ; last-reservation = number
-      ; last-commit = b .last-commit
-      ; tally = b .tally }
+  pub book : b′ ≡ record {
+    transactions = b .transactions;
+    reservations = b .reservations ++ (entry ∷ []);
+    changes = b .changes;
+    last-transaction = b .last-transaction;
+    last-reservation = number;
+    last-commit = b .last-commit;
+    tally = b .tally;
+  }
 
 -- one more refusal 30, up to 999,999,999
 abbrev pub tallied : Book → Book
-tallied b = record
-    { transactions = b .transactions
-    ; reservations = b .reservations
-    ; changes = b .changes
-    ; last-transaction = b .last-transaction
-    ; last-reservation = b .last-reservation
-    ; last-commit = b .last-commit
-    ; tally = min (suc (b .tally)) 999999999 }
+tallied b = record {
+  transactions = b .transactions;
+  reservations = b .reservations;
+  changes = b .changes;
+  last-transaction = b .last-transaction;
+  last-reservation = b .last-reservation;
+  last-commit = b .last-commit;
+  tally = min (suc (b .tally)) 999999999;
+}
 
 -- a conflict: the tally rises, and the row buffer gets a sample of the rows that fit the holder's reservation and the request
 pub record Conflicted (sig : List ℕ) (M : Meaning) (p : Description) (b b′ : Book) (buffer′ : Sample) (transaction reservation : ℕ) : Type 0 where

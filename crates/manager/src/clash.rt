@@ -80,9 +80,15 @@ pub(crate) fn first_clash<K: Kind>(
     ensures blank { λ _. ⌜ Blank (now (sheet .exit)) ⌝ }
 {
     for (index, held) in reservations.iter().enumerate() {
-        if let Some(sample) =
-            clash_with(kind, signature, held, transaction, right, pattern, sheet)
-        {
+        if let Some(sample) = clash_with(
+            kind,
+            signature,
+            held,
+            transaction,
+            right,
+            pattern,
+            sheet,
+        ) {
             return Some(Clash { index, sample });
         }
     }

@@ -39,7 +39,8 @@ impl<K: Kind> Manager<K> {
         }
         let number = self.last_transaction + 1;
         // there is a place for it
-        let _ = self.transactions.push(memory.transactions, Transaction { number, planner });
+        let _ = self.transactions
+            .push(memory.transactions, Transaction { number, planner });
         self.last_transaction = number;
         Ok(number)
     }

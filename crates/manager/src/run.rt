@@ -5,7 +5,7 @@ ghost use Rattle.manager.specs.Book.{Fixed, Well, book-of};
 ghost use Rattle.manager.specs.Checks.{Answers};
 ghost use Rattle.manager.specs.Calls.{Made, Run-made, Steps, asked-by, new-checks, number, says};
 ghost use Rattle.unification.specs.Sheets.{Blank};
-ghost use Rattle.serial.specs.History.{Call.begin as asks-begin, Call.reserve as asks-reserve, Call.commit as asks-commit, Call.abandon as asks-abandon};
+ghost use Rattle.serial.specs.History.{Call.begin as asks-begin, Call.reserve as asks-reserve, Call.look as asks-look, Call.survey as asks-survey, Call.write as asks-write, Call.strike as asks-strike, Call.commit as asks-commit, Call.abandon as asks-abandon};
 use crate::call::Answer;
 use crate::call::Call;
 use crate::check::check_sizes;
@@ -73,8 +73,91 @@ impl<K: Kind> Manager<K> {
         ensures well { λ _. ⌜ Well means (now (self .exit)) (now (memory .exit)) ⌝ }
         ensures fixed { λ _. ⌜ Fixed (now (self .entry)) (now (self .exit)) ⌝ }
     {
-        match self.reserve(memory, transaction, right, cells, constraints, sheet, buffer) {
+        match self.reserve(
+            memory,
+            transaction,
+            right,
+            cells,
+            constraints,
+            sheet,
+            buffer,
+        ) {
             Ok(number) => Answer::Number(number),
+            Err(fault) => Answer::Refused(fault),
+        }
+    }
+
+    fn answer_look<S: Store>(
+        &self,
+        memory: &Memory,
+        store: &S,
+        transaction: u32,
+        cells: &[Cell],
+        sheet: &mut [Cell; 16],
+    ) -> Answer
+        requires { ⌜ Well (K·Kind .means) (now self) (now memory) ⌝ }
+        ensures steps { λ a. ⌜ Steps (language (now (self .entry) .signature .arities) (K·Kind .means (now (self .entry) .kind))) (book-of (now (self .entry)) (now (memory .entry))) (book-of (now (self .entry)) (now (memory .entry))) (S·Store .means (now (store .entry))) (S·Store .means (now (store .entry))) (asks-look transaction (now (cells .entry))) (says a) ⌝ }
+        ensures blank { λ _. ⌜ Blank (now (sheet .exit)) ⌝ }
+    {
+        match self.look(memory, store, transaction, cells, sheet) {
+            Ok(found) => Answer::Found(found),
+            Err(fault) => Answer::Refused(fault),
+        }
+    }
+
+    fn answer_survey<S: Store>(
+        &self,
+        memory: &Memory,
+        store: &S,
+        transaction: u32,
+        reservation: u32,
+        sheet: &mut [Cell; 16],
+    ) -> Answer
+        requires { ⌜ Well (K·Kind .means) (now self) (now memory) ⌝ }
+        ensures steps { λ a. ⌜ Steps (language (now (self .entry) .signature .arities) (K·Kind .means (now (self .entry) .kind))) (book-of (now (self .entry)) (now (memory .entry))) (book-of (now (self .entry)) (now (memory .entry))) (S·Store .means (now (store .entry))) (S·Store .means (now (store .entry))) (asks-survey transaction reservation) (says a) ⌝ }
+        ensures blank { λ _. ⌜ Blank (now (sheet .exit)) ⌝ }
+    {
+        match self.survey(memory, store, transaction, reservation, sheet) {
+            Ok((rows, total)) => Answer::Figures(rows, total),
+            Err(fault) => Answer::Refused(fault),
+        }
+    }
+
+    fn answer_write(
+        &mut self,
+        memory: &mut Memory,
+        transaction: u32,
+        cells: &[Cell],
+        count: u32,
+        sheet: &mut [Cell; 16],
+    ) -> Answer
+        requires { ⌜ Well means (now self) (now memory) ⌝ }
+        ensures steps { λ a. ⌜ ((m : _) → Steps (language (now (self .entry) .signature .arities) (means (now (self .entry) .kind))) (book-of (now (self .entry)) (now (memory .entry))) (book-of (now (self .exit)) (now (memory .exit))) m m (asks-write transaction (now (cells .entry)) count) (says a)) ⌝ }
+        ensures blank { λ _. ⌜ Blank (now (sheet .exit)) ⌝ }
+        ensures well { λ _. ⌜ Well means (now (self .exit)) (now (memory .exit)) ⌝ }
+        ensures fixed { λ _. ⌜ Fixed (now (self .entry)) (now (self .exit)) ⌝ }
+    {
+        match self.write(memory, transaction, cells, count, sheet) {
+            Ok(()) => Answer::Done,
+            Err(fault) => Answer::Refused(fault),
+        }
+    }
+
+    fn answer_strike(
+        &mut self,
+        memory: &mut Memory,
+        transaction: u32,
+        cells: &[Cell],
+        sheet: &mut [Cell; 16],
+    ) -> Answer
+        requires { ⌜ Well means (now self) (now memory) ⌝ }
+        ensures steps { λ a. ⌜ ((m : _) → Steps (language (now (self .entry) .signature .arities) (means (now (self .entry) .kind))) (book-of (now (self .entry)) (now (memory .entry))) (book-of (now (self .exit)) (now (memory .exit))) m m (asks-strike transaction (now (cells .entry))) (says a)) ⌝ }
+        ensures blank { λ _. ⌜ Blank (now (sheet .exit)) ⌝ }
+        ensures well { λ _. ⌜ Well means (now (self .exit)) (now (memory .exit)) ⌝ }
+        ensures fixed { λ _. ⌜ Fixed (now (self .entry)) (now (self .exit)) ⌝ }
+    {
+        match self.strike(memory, transaction, cells, sheet) {
+            Ok(()) => Answer::Done,
             Err(fault) => Answer::Refused(fault),
         }
     }
@@ -140,6 +223,21 @@ impl<K: Kind> Manager<K> {
                 sheet,
                 buffer,
             ),
+            Call::Look { transaction, cells } => {
+                self.answer_look(memory, store, *transaction, cells, sheet)
+            }
+            Call::Survey {
+                transaction,
+                reservation,
+            } => self.answer_survey(memory, store, *transaction, *reservation, sheet),
+            Call::Write {
+                transaction,
+                cells,
+                count,
+            } => self.answer_write(memory, *transaction, cells, *count, sheet),
+            Call::Strike { transaction, cells } => {
+                self.answer_strike(memory, *transaction, cells, sheet)
+            }
             Call::Commit { transaction } => self.answer_commit(memory, store, *transaction),
             Call::Abandon { transaction } => self.answer_abandon(memory, *transaction),
         }

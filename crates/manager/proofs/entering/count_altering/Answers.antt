@@ -28,4 +28,4 @@ pub returns : need.returns
 returns g c =
     let p : PendingChange → Bool = λ x. alters (c .args .absences) (c .args .transaction) (g .S·Store .means (c .args .store .now)) (pending-of x) in
     let inv = c .loop-change .inv in
-    record { count = inv .0 ∙ ap (countBy p) (take-all (c .loop-change .change-index) (c .args .changes .now) (c .loop-change-test .left)); few = omega arith; }
+    record { count = inv .0 ∙ ap (countBy p) (take-all (c .loop-change .change-index) (c .args .changes .now) (c .loop-change-test .left)); few = omega arith }

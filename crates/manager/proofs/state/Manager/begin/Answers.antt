@@ -23,18 +23,19 @@ returns g c =
     let new : Transaction = record { number = n; planner = c .args .planner } in
     let p = pushed-there (m .transactions .len) (x .transactions .now) (c .push .last .self .len) (c .push .last .memory) new (c .push .result) lt (c .push .ensures) in
     let b = book-of m x in
-    let b′ : Book = record
-        { transactions = take (c .push .last .self .len) (c .push .last .memory)
-        ; reservations = b .reservations
-        ; changes = b .changes
-        ; last-transaction = n
-        ; last-reservation = b .last-reservation
-        ; last-commit = b .last-commit
-        ; tally = b .tally } in
+    let b′ : Book = record {
+      transactions = take (c .push .last .self .len) (c .push .last .memory);
+      reservations = b .reservations;
+      changes = b .changes;
+      last-transaction = n;
+      last-reservation = b .last-reservation;
+      last-commit = b .last-commit;
+      tally = b .tally;
+    } in
     let begun : Begun (c .args .planner) b b′ n = record {
-          next = add-one (m .«last_transaction»);
-          book = ap (λ ts. record { transactions = ts; reservations = b .reservations; changes = b .changes; last-transaction = n; last-reservation = b .last-reservation; last-commit = b .last-commit; tally = b .tally }) (p .1);
-        } in
+      next = add-one (m .«last_transaction»);
+      book = ap (λ ts. record { transactions = ts; reservations = b .reservations; changes = b .changes; last-transaction = n; last-reservation = b .last-reservation; last-commit = b .last-commit; tally = b .tally }) (p .1);
+    } in
     record {
       answers = ((z, ((omega arith, omega arith), (omega arith, (omega arith, tt)))), begun);
       well = λ _. sound-begun (m .signature .arities) (g .K·Kind .means (m .kind)) b b′ (c .pre z) (c .args .planner) n begun;

@@ -28,7 +28,7 @@ ghost-self g c =
     let w3 = c .remove-3 .ensures .shorter in
     let k1 = c .remove .kept .memory in
     let less : c .remove .last .self .len < m .transactions .len =
-        fewer (λ (e : Transaction). e .number) (c .args .transaction) (x .transactions .now) (c .remove .last .memory) (m .transactions .len) (c .remove .last .self .len) (omega arith) (omega arith) (c .remove .ensures .kept) (c .in-Continue-check-open .ensures tt) in
+    fewer (λ (e : Transaction). e .number) (c .args .transaction) (x .transactions .now) (c .remove .last .memory) (m .transactions .len) (c .remove .last .self .len) (omega arith) (omega arith) (c .remove .ensures .kept) (c .in-Continue-check-open .ensures tt) in
     (omega arith, (omega arith, (omega arith, (omega arith, (omega arith, (omega arith, (omega arith, tt)))))))
 
 pub returns : need.returns
@@ -39,16 +39,17 @@ returns g c =
     let r = c .in-Continue-enter-own .ensures tt in
     let b = book-of m x in
     let n = m .«last_commit» + 1 in
-    let b′ : Book = record
-        { transactions = take (c .remove .last .self .len) (c .remove .last .memory)
-        ; reservations = take (c .remove-2 .last .self .len) (c .remove-2 .last .memory)
-        ; changes = take (c .remove-3 .last .self .len) (c .remove-3 .last .memory)
-        ; last-transaction = b .last-transaction
-        ; last-reservation = b .last-reservation
-        ; last-commit = n
-        ; tally = b .tally } in
+    let b′ : Book = record {
+      transactions = take (c .remove .last .self .len) (c .remove .last .memory);
+      reservations = take (c .remove-2 .last .self .len) (c .remove-2 .last .memory);
+      changes = take (c .remove-3 .last .self .len) (c .remove-3 .last .memory);
+      last-transaction = b .last-transaction;
+      last-reservation = b .last-reservation;
+      last-commit = n;
+      tally = b .tally;
+    } in
     let e : b′ ≡ ended (c .args .transaction) n b =
-        book-same _ _ _ _ _ _ (b .last-transaction) (b .last-reservation) n (b .tally) (c .remove .ensures .kept) (c .remove-2 .ensures .kept) (c .remove-3 .ensures .kept) in
+    book-same _ _ _ _ _ _ (b .last-transaction) (b .last-reservation) n (b .tally) (c .remove .ensures .kept) (c .remove-2 .ensures .kept) (c .remove-3 .ensures .kept) in
     record {
       answers = ((z, (c .in-Continue-check-open .ensures tt, (r .2, tt))), record { next = add-one (m .«last_commit»); store = r .0; book = e });
       places = r .1;

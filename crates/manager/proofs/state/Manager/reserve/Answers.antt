@@ -44,19 +44,37 @@ returns-in-Some g c =
     let long = length-take-le (m .reservations .len) (x .reservations .now) few in
     let first = c .in-Some .ensures tt .answer in
     let b = book-of m x in
-    let b′ : Book = record
-        { transactions = b .transactions
-        ; reservations = b .reservations
-        ; changes = b .changes
-        ; last-transaction = b .last-transaction
-        ; last-reservation = b .last-reservation
-        ; last-commit = b .last-commit
-        ; tally = c .min-self .result } in
+    let b′ : Book = record {
+      transactions = b .transactions;
+      reservations = b .reservations;
+      changes = b .changes;
+      last-transaction = b .last-transaction;
+      last-reservation = b .last-reservation;
+      last-commit = b .last-commit;
+      tally = c .min-self .result;
+    } in
     let e : b′ ≡ tallied b = ap (λ y. record { transactions = b .transactions; reservations = b .reservations; changes = b .changes; last-transaction = b .last-transaction; last-reservation = b .last-reservation; last-commit = b .last-commit; tally = y }) (c .min-self .ensures ∙ ap (λ y. min y 999999999) (add-one (m .tally))) in
     record {
       answers = (
-        inr (z, inr (c .in-Continue-check-open .ensures tt, inr ((w, named), inr (subst (Proper-pattern sig M) (read .0) (read .1), inr (omega arith, inr (omega arith,
-            inl (holds sig M (c .args .transaction) (c .args .right) w named p (described (c .in-Continue-pattern .pattern)) (read .0) (x .reservations .now) (m .reservations .len) few (c .in-Some .clash) first (c .index-memory-clash .result)))))))),
+        inr (
+          z,
+          inr (
+            c .in-Continue-check-open .ensures tt,
+            inr (
+              (w, named),
+              inr (
+                subst (Proper-pattern sig M) (read .0) (read .1),
+                inr (
+                  omega arith,
+                  inr (
+                    omega arith,
+                    inl (holds sig M (c .args .transaction) (c .args .right) w named p (described (c .in-Continue-pattern .pattern)) (read .0) (x .reservations .now) (m .reservations .len) few (c .in-Some .clash) first (c .index-memory-clash .result)),
+                  ),
+                ),
+              ),
+            ),
+          ),
+        ),
         conflicted sig M (c .args .transaction) (c .args .right) w named p (described (c .in-Continue-pattern .pattern)) (read .0) (x .reservations .now) (m .reservations .len) few (c .in-Some .clash) first (c .index-memory-clash .result) b b′ refl e,
       );
       blank = c .own-clash .ensures .blank;
@@ -85,27 +103,45 @@ returns g c =
     let new : Reservation = record { number = n; owner = c .args .transaction; right = c .in-Continue-right .right; pattern = c .in-Continue-pattern .pattern } in
     let pushed = pushed-there (m .reservations .len) (x .reservations .now) (c .push .last .self .len) (c .push .last .memory) new (c .push .result) lt (c .push .ensures) in
     let b = book-of m x in
-    let b′ : Book = record
-        { transactions = b .transactions
-        ; reservations = take (c .push .last .self .len) (c .push .last .memory)
-        ; changes = b .changes
-        ; last-transaction = b .last-transaction
-        ; last-reservation = n
-        ; last-commit = b .last-commit
-        ; tally = b .tally } in
+    let b′ : Book = record {
+      transactions = b .transactions;
+      reservations = take (c .push .last .self .len) (c .push .last .memory);
+      changes = b .changes;
+      last-transaction = b .last-transaction;
+      last-reservation = n;
+      last-commit = b .last-commit;
+      tally = b .tally;
+    } in
     let reserved : Reserved (c .args .transaction) (c .args .right) p b b′ n = record {
-          entry = new;
-          owner = refl;
-          right = named;
-          pattern = read .0;
-          numbered = refl;
-          next = add-one (m .«last_reservation»);
-          book = ap (λ rs. record { transactions = b .transactions; reservations = rs; changes = b .changes; last-transaction = b .last-transaction; last-reservation = n; last-commit = b .last-commit; tally = b .tally }) (pushed .1);
-        } in
+      entry = new;
+      owner = refl;
+      right = named;
+      pattern = read .0;
+      numbered = refl;
+      next = add-one (m .«last_reservation»);
+      book = ap (λ rs. record { transactions = b .transactions; reservations = rs; changes = b .changes; last-transaction = b .last-transaction; last-reservation = n; last-commit = b .last-commit; tally = b .tally }) (pushed .1);
+    } in
     record {
       answers = (
-        (z, (c .in-Continue-check-open .ensures tt, ((w, named), (proper, (omega arith, (omega arith,
-            (clear sig M (c .args .transaction) (c .args .right) w named p (described (c .in-Continue-pattern .pattern)) (read .0) (b .reservations) (c .in-rest .ensures tt .answer), tt))))))),
+        (
+          z,
+          (
+            c .in-Continue-check-open .ensures tt,
+            (
+              (w, named),
+              (
+                proper,
+                (
+                  omega arith,
+                  (
+                    omega arith,
+                    (clear sig M (c .args .transaction) (c .args .right) w named p (described (c .in-Continue-pattern .pattern)) (read .0) (b .reservations) (c .in-rest .ensures tt .answer), tt),
+                  ),
+                ),
+              ),
+            ),
+          ),
+        ),
         (reserved, refl),
       );
       blank = c .own-clash .ensures .blank;
