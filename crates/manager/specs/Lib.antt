@@ -7,4 +7,5 @@ pub mod Clashes
 pub mod Reserving
 pub mod Looking
 pub mod Surveying
+pub mod Tickets
 pub mod Calls

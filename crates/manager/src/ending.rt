@@ -1,10 +1,11 @@
 // Begin, and the two ends of a transaction.
 ghost use mathlib.Core.Path.{_≡_};
+ghost use mathlib.Core.List.{[], _∷_};
 ghost use lib.Dec.{eqb};
 ghost use Rattle.std.specs.shelf.Lists.{countBy};
 ghost use Rattle.manager.specs.Book.{Fixed, Sizes, Well, book-of};
 ghost use Rattle.manager.specs.Checks.{Answers};
-ghost use Rattle.manager.specs.Ending.{Abandoned, Begun, Committed, Entered, abandon-checks, begin-checks, commit-checks};
+ghost use Rattle.manager.specs.Ending.{Abandoned, Begun, Committed, Entered, abandon-checks, begin-checks, commit-checks, sizes};
 use crate::check::check_sizes;
 use crate::entering::enter_changes;
 use crate::entry::PendingChangeOwned;
@@ -43,6 +44,14 @@ impl<K: Kind> Manager<K> {
             .push(memory.transactions, Transaction { number, planner });
         self.last_transaction = number;
         Ok(number)
+    }
+
+    // How many refusals 30 there were.
+    pub fn tally(&self, memory: &Memory) -> Result<u32, ManagerFault>
+        ensures { λ r. ⌜ Answers (sizes (now (memory .entry)) ∷ []) (λ n. n ≡ now (self .entry) .tally) (λ _. Unit {0}) r ⌝ }
+    {
+        check_sizes(memory)?;
+        Ok(self.tally)
     }
 
     fn count_changes(&self, memory: &Memory, transaction: u32) -> u32
