@@ -7,12 +7,13 @@ use native.Mathlib.Decide.{ℕ-discrete}
 use Rattle.std.specs.declared.option.Option.{Option}
 use Rattle.std.specs.declared.option.Option.the-variants.{Some, None}
 use Rattle.maps.specs.Maps.{In}
-use Rattle.serial.specs.Rights.{Change, Change.written, Change.struck, Right}
+use Rattle.serial.specs.Rights.{Change, Change.written, Change.struck, Right, letter-of}
 
--- what a user asks. All but begin, which names a planner, name a transaction first; a survey then names a reservation.
+-- What a user asks. All but begin, which names a planner, name a transaction first; a reserve then names the letter of a
+-- right, and a survey a reservation.
 pub data Call (Row Pattern : Type 0) : Type 0 where
   begin : ℕ → Call Row Pattern
-  reserve : ℕ → Right → Pattern → Call Row Pattern
+  reserve : ℕ → ℕ → Pattern → Call Row Pattern
   look : ℕ → Row → Call Row Pattern
   survey : ℕ → ℕ → Call Row Pattern
   write : ℕ → Row → ℕ → Call Row Pattern
@@ -40,7 +41,7 @@ pub data Event (Row Pattern : Type 0) : Type 0 where
 abbrev pub asked : {Row Pattern : Type 0} → Event Row Pattern → Call Row Pattern
 asked (refused c n) = c
 asked (began planner t) = begin planner
-asked (reserved t w p n) = reserve t w p
+asked (reserved t w p n) = reserve t (letter-of w) p
 asked (did t (looked r v)) = look t r
 asked (did t (surveyed n number total)) = survey t n
 asked (did t (changed r (written k))) = write t r k

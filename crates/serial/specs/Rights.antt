@@ -18,6 +18,11 @@ becomes struck c = None
 pub data Right : Type 0 where
   reading writing : Right
 
+-- the letter by which a user names the right: R (82) or W (87)
+abbrev pub letter-of : Right → ℕ
+letter-of reading = 82
+letter-of writing = 87
+
 -- the right allows the change
 abbrev pub Allows : Right → Change → Type 0
 Allows w a = w ≡ writing

@@ -1,0 +1,9 @@
+mod Sounds
+mod Moved
+mod Going
+mod Passes
+mod Opens
+mod Reserves
+mod Rows
+mod Changes
+mod Counting

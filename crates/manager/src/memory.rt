@@ -1,0 +1,10 @@
+use crate::entry::PendingChange;
+use crate::entry::Reservation;
+use crate::entry::Transaction;
+
+// The memory of the rolls, which the caller brings to every call: 16, 64 and 128 places.
+pub struct Memory<'a> {
+    pub transactions: &'a mut [Transaction],
+    pub reservations: &'a mut [Reservation],
+    pub changes: &'a mut [PendingChange],
+}
