@@ -3,7 +3,7 @@ use mathlib.Core.Path.{_≡_, refl, sym, ap, _∙_, subst}
 use mathlib.Core.List.{List, [], _∷_, _++_}
 use mathlib.Core.Bool.{true, false}
 use mathlib.Core.Logic.{⊎-elim}
-use Prim.Native.Nat.{ℕ, zero, suc, _+_, _*_, _/_, _<_, _≤_}
+use Prim.Native.Nat.{ℕ, zero, suc, _+_, _*_, _<_}
 use native.Mathlib.Omega.{arith}
 use lib.ListN.{length, take, drop, getD}
 use Rattle.std.specs.declared.option.Option.the-variants.{Some, None}
@@ -14,12 +14,12 @@ use Rattle.std.proofs.shelf.Tests.{both-ways}
 use Rattle.refusals.proofs.Places.{first-improper}
 use Rattle.terms.specs.declared.cell.Cell.{Cell}
 use Rattle.stores.specs.declared.fault.StoreFault.{StoreFault}
-use Rattle.stores.specs.Places.{Holding, Place, row-at, taken, hits, held, Apart}
+use Rattle.stores.specs.Places.{Place, row-at, taken, hits, held, Apart}
 use Rattle.stores.specs.Rows.{Storable, same-true, same-self}
 use Rattle.stores.proofs.Writes.{none-hits, apart-parts}
 use Rattle.image.specs.Texts.{Proper, text, fields, Line-fields}
-use Rattle.image.specs.Meaning.{line, lines-in, meaning, entries, Shows, Sound}
-use Rattle.image.specs.Open.{Same-row, Stops}
+use Rattle.image.specs.Meaning.{line, lines-in, meaning, entries, Sound}
+use Rattle.image.specs.Open.{Stops}
 use Rattle.image.specs.Laws.{texts, Image-of, Exactly}
 use Rattle.image.proofs.Decoding.{text-length}
 use Rattle.image.proofs.Meanings.{entries-length, entries-at, shows-from, meaning-from}
@@ -110,7 +110,7 @@ module _ (Row : List Cell → Type 0) (fit : (cs : List Cell) → Row cs → Sto
         let m = many in
         same-lists (entries xs) ps (omega arith)
         (λ k d h.
-            entries-at xs k d (omega arith) ∙ meaning-from Row fit (line k xs) (getD ps k d) (place-proper k d (omega arith)) (line-is-text k d (omega arith)))
+        entries-at xs k d (omega arith) ∙ meaning-from Row fit (line k xs) (getD ps k d) (place-proper k d (omega arith)) (line-is-text k d (omega arith)))
 
     pub sound : Sound Row xs
     sound =
@@ -146,13 +146,13 @@ module _ (Row : List Cell → Type 0) (fit : (cs : List Cell) → Row cs → Sto
       ⊎-elim
       (λ b. first-improper (Line-fields Row) (fields (line k xs)) (b .0) (b .2) (record { place = meaning (line k xs); proper = s .shows k w .good; same = ap fields (s .shows k w .same) }))
       (λ a.
-          let j = a .2 .0 in
-          let h = a .2 .1 in
-          let r = a .2 .2 in
-          let q = row-at (meaning (line k xs)) in
-          apart-pair (entries xs) q j k None (s .apart) h (omega arith)
-          (ap (λ o. hits o q) (entries-at xs j None (omega arith)) ∙ ap (hits (meaning (line j xs))) (sym (r .row)) ∙ hits-row (meaning (line j xs)) (r .first))
-          (ap (λ o. hits o q) (entries-at xs k None (omega arith)) ∙ hits-row (meaning (line k xs)) (r .second)))
+      let j = a .2 .0 in
+      let h = a .2 .1 in
+      let r = a .2 .2 in
+      let q = row-at (meaning (line k xs)) in
+      apart-pair (entries xs) q j k None (s .apart) h (omega arith)
+      (ap (λ o. hits o q) (entries-at xs j None (omega arith)) ∙ ap (hits (meaning (line j xs))) (sym (r .row)) ∙ hits-row (meaning (line j xs)) (r .first))
+      (ap (λ o. hits o q) (entries-at xs k None (omega arith)) ∙ hits-row (meaning (line k xs)) (r .second)))
       (t .here)
 
   pub exactly : Exactly Row

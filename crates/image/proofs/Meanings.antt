@@ -1,7 +1,7 @@
 -- What lines mean, and which line is whose.
 use mathlib.Core.Path.{_≡_, refl, sym, ap, _∙_, subst}
 use mathlib.Core.List.{List, [], _∷_, _++_, map}
-use mathlib.Core.Bool.{Bool, true, false, cond}
+use mathlib.Core.Bool.{true, false, cond}
 use mathlib.Core.Logic.{⊎-elim}
 use Prim.Native.Nat.{ℕ, _+_, _*_, _/_, _^_, _<_, _≤_, zero, suc}
 use native.Mathlib.Omega.{arith}
@@ -51,7 +51,7 @@ module _ (Row : List Cell → Type 0) (fit : (cs : List Cell) → Row cs → Sto
   field-text : (e : Place) → Proper Row e → (j : ℕ) → j < 12 → field j (text e) ≡ slot-text (nth (row-at e) j)
   field-text e p j h =
       let both : slots j (row-at e) ++ field j (text e) ≡ slots j (row-at e) ++ slot-text (nth (row-at e) j) =
-          ap (λ t. t ++ field j (text e)) (sym (text-front Row fit e p j (omega arith))) ∙ sym (front-more j (text e)) ∙ text-front Row fit e p (j + 1) (omega arith) ∙ slots-more j (row-at e) in
+      ap (λ t. t ++ field j (text e)) (sym (text-front Row fit e p j (omega arith))) ∙ sym (front-more j (text e)) ∙ text-front Row fit e p (j + 1) (omega arith) ∙ slots-more j (row-at e) in
       split (slots j (row-at e)) (field j (text e)) (slots j (row-at e)) (slot-text (nth (row-at e) j)) refl both .1
 
   cells-back : (e : Place) → Proper Row e → (j : ℕ) → j ≤ 12 → cells-shown j (text e) ≡ take j (row-at e)
@@ -149,11 +149,11 @@ entries-set xs ys k e h l m others =
     let q : lines-in ys ≡ lines-in xs = ap (λ n. n / 128) l in
     same-lists (entries ys) (set (entries xs) k e) (omega arith)
     (λ j d b.
-        entries-at ys j d (omega arith)
-        ∙ ⊎-elim
-          (λ s. ap (λ i. meaning (line i ys)) s ∙ m ∙ sym (ap (λ i. getD (set (entries xs) k e) i d) s ∙ getD-set-same (entries xs) k e d (omega arith)))
-          (λ n. ap meaning (others j n) ∙ sym (getD-set-other (entries xs) k j e d n ∙ entries-at xs j d (omega arith)))
-          (cases-eq j k))
+    entries-at ys j d (omega arith)
+    ∙ ⊎-elim
+    (λ s. ap (λ i. meaning (line i ys)) s ∙ m ∙ sym (ap (λ i. getD (set (entries xs) k e) i d) s ∙ getD-set-same (entries xs) k e d (omega arith)))
+    (λ n. ap meaning (others j n) ∙ sym (getD-set-other (entries xs) k j e d n ∙ entries-at xs j d (omega arith)))
+    (cases-eq j k))
 
 -- parts of a line
 pub line-part : (k n m : ℕ) (xs : List ℕ) → n ≡ m → m ≤ 128 → take n (drop (k * 128) xs) ≡ take m (line k xs)
@@ -208,9 +208,6 @@ module _ (o : Place) (cs : List Cell) (tail : List ℕ) (k : Row-and-count o cs 
 
   pub read-back : (ds : List Cell) (m v : ℕ) → ds ≡ cs → m ≡ v → v < 2 ^ 32 → Reads tail (Some v) → Some (ds, m) ≡ o
   read-back ds m v d e h r = ap (λ xs. Some (xs, m)) d ∙ ap (λ n. Some (cs, n)) (e ∙ tail-count v h r) ∙ sym (k .same)
-
-pub fit-length : (s : List ℕ) → Shows Storable s → length s ≡ 128
-fit-length s w = shows-length Storable idle s w
 
 pub fit-tail : (s : List ℕ) → Shows Storable s → take 7 (drop 120 s) ≡ tail-in (meaning s)
 fit-tail s w = shows-tail Storable idle s w

@@ -2,11 +2,11 @@
 use mathlib.Core.Path.{_≡_, refl, sym, ap, _∙_, subst}
 use mathlib.Core.List.{List, [], _∷_, _++_}
 use mathlib.Core.Bool.{Bool, true, false, cond, not}
-use mathlib.Core.Logic.{inl, inr, ⊎-elim}
-use Prim.Native.Nat.{ℕ, zero, suc, _+_, _*_, _/_, _<_, _≤_}
+use mathlib.Core.Logic.{⊎-elim}
+use Prim.Native.Nat.{ℕ, zero, suc, _+_, _<_, _≤_}
 use native.Mathlib.Omega.{arith}
 use native.Mathlib.Numerals.{add-one}
-use lib.ListN.{length, take, drop, getD}
+use lib.ListN.{length, take, getD}
 use Rattle.std.specs.Options.{isSome}
 use Rattle.std.specs.declared.option.Option.{Option}
 use Rattle.std.specs.declared.option.Option.the-variants.{Some, None}
@@ -73,8 +73,8 @@ module _ (Row : List Cell → Type 0) (xs : List ℕ) where
   apart-to (suc n) h g =
       let l = entries-length xs in
       let more : held (take (suc n) (entries xs)) ≡ held (take n (entries xs)) ++ held (meaning (line n xs) ∷ []) =
-            ap (λ m. held (take m (entries xs))) (sym (add-one n)) ∙ ap held (take-more (entries xs) n None (omega arith))
-            ∙ held-append (take n (entries xs)) (getD (entries xs) n None ∷ []) ∙ ap (λ o. held (take n (entries xs)) ++ held (o ∷ [])) (entries-at xs n None (omega arith)) in
+      ap (λ m. held (take m (entries xs))) (sym (add-one n)) ∙ ap held (take-more (entries xs) n None (omega arith))
+      ∙ held-append (take n (entries xs)) (getD (entries xs) n None ∷ []) ∙ ap (λ o. held (take n (entries xs)) ++ held (o ∷ [])) (entries-at xs n None (omega arith)) in
       subst Apart (sym more) (go (meaning (line n xs)) refl (apart-to n (omega arith) (λ k b. g k (omega arith))))
     where
       new : (x : Holding) → meaning (line n xs) ≡ Some x → look (held (take n (entries xs))) (x .0) ≡ None
@@ -83,23 +83,24 @@ module _ (Row : List Cell → Type 0) (xs : List ℕ) where
           let t : length (take n (entries xs)) ≡ n = length-take-le n (entries xs) (omega arith) in
           none-find (take n (entries xs)) (x .0)
           (λ j d b.
-              let at : getD (take n (entries xs)) j d ≡ meaning (line j xs) = getD-take n (entries xs) j d (omega arith) ∙ entries-at xs j d (omega arith) in
-              ⊎-elim
-              (λ y.
-                  let p = hit-parts (meaning (line j xs)) (x .0) (sym (ap (λ o. hits o (x .0)) at) ∙ y) in
-                  absurd (g n (omega arith) .new j (omega arith) (record { first = p .0; second = ap taken e; row = p .1 ∙ sym (ap row-at e) })))
-              (λ f. f) (cases-bool (hits (getD (take n (entries xs)) j d) (x .0))))
+          let at : getD (take n (entries xs)) j d ≡ meaning (line j xs) = getD-take n (entries xs) j d (omega arith) ∙ entries-at xs j d (omega arith) in
+          ⊎-elim
+          (λ y.
+          let p = hit-parts (meaning (line j xs)) (x .0) (sym (ap (λ o. hits o (x .0)) at) ∙ y) in
+          absurd (g n (omega arith) .new j (omega arith) (record { first = p .0; second = ap taken e; row = p .1 ∙ sym (ap row-at e) })))
+          (λ f. f) (cases-bool (hits (getD (take n (entries xs)) j d) (x .0))))
+
       go : (o : Place) → meaning (line n xs) ≡ o → Apart (held (take n (entries xs))) → Apart (held (take n (entries xs)) ++ held (o ∷ []))
       go None e a = subst Apart (sym (append-nil (held (take n (entries xs))))) a
       go (Some x) e a = apart-push (held (take n (entries xs))) x a (new x e)
 
   pub sound-from : Sizes xs → Good-to Row xs (lines-in xs) → Sound Row xs
   sound-from s g = record {
-      whole = s .0;
-      allowed = s .1;
-      shows = λ k h. g k h .shows;
-      apart = subst (λ ps. Apart (held ps)) (take-all (lines-in xs) (entries xs) (let l = entries-length xs in omega arith)) (apart-to (lines-in xs) (omega arith) g);
-    }
+    whole = s .0;
+    allowed = s .1;
+    shows = λ k h. g k h .shows;
+    apart = subst (λ ps. Apart (held ps)) (take-all (lines-in xs) (entries xs) (let l = entries-length xs in omega arith)) (apart-to (lines-in xs) (omega arith) g);
+  }
 
   pub good-more : (n : ℕ) → Good-to Row xs n → Good Row xs n → Good-to Row xs (n + 1)
   good-more n g w k h = ⊎-elim (λ e. subst (Good Row xs) (sym e) w) (λ ne. g k (omega arith)) (cases-eq k n)
@@ -111,6 +112,7 @@ sound-weaker Row fit xs s = record { whole = s .whole; allowed = s .allowed; sho
     kept : (p : Place) → Proper Row p → Proper Storable p
     kept None p = tt
     kept (Some h) p = (fit (h .0) (p .0), p .1)
+
     weaker : (s : List ℕ) → Shows Row s → Shows Storable s
     weaker s w = record { good = kept (meaning s) (w .good); same = w .same }
 
@@ -118,9 +120,9 @@ sound-weaker Row fit xs s = record { whole = s .whole; allowed = s .allowed; sho
 module _ (Row : List Cell → Type 0) (fit : (cs : List Cell) → Row cs → Storable cs) (xs : List ℕ) (k : ℕ) (before : Good-to Row xs k) where
   pub good-none : line k xs ≡ text None → Good Row xs k
   good-none e = record {
-      shows = shows-from Row fit (line k xs) None tt e;
-      new = λ j h s. both-ways (taken (meaning (line k xs))) (ap taken (meaning-from Row fit (line k xs) None tt e)) (s .second);
-    }
+    shows = shows-from Row fit (line k xs) None tt e;
+    new = λ j h s. both-ways (taken (meaning (line k xs))) (ap taken (meaning-from Row fit (line k xs) None tt e)) (s .second);
+  }
 
   module _ (x : Holding) (p : Proper Row (Some x)) (e : line k xs ≡ text (Some x)) (front : List ℕ) (same-front : front ≡ take 120 (line k xs)) where
     means : meaning (line k xs) ≡ Some x
@@ -131,16 +133,17 @@ module _ (Row : List Cell → Type 0) (fit : (cs : List Cell) → Row cs → Sto
 
     pub good-some : NoKey xs front k → Good Row xs k
     good-some none = record {
-        shows = shows-from Row fit (line k xs) (Some x) p e;
-        new = λ j h s. none j h (shows-front Row fit (line j xs) (before j h .shows) ∙ ap (slots 12) (s .row ∙ ap row-at means) ∙ sym front-is);
-      }
+      shows = shows-from Row fit (line k xs) (Some x) p e;
+      new = λ j h s. none j h (shows-front Row fit (line j xs) (before j h .shows) ∙ ap (slots 12) (s .row ∙ ap row-at means) ∙ sym front-is);
+    }
 
     pub again : (j : ℕ) → AtKey xs front k j → Shows Row (line k xs) × ((j : ℕ) × (j < k) × Same-row xs j k)
     again j at =
         let cells = shows-cells Row fit (line j xs) (before j (at .within) .shows) (x .0) (fit (x .0) (p .0)) (at .here ∙ front-is) in
-        let hit = hits-from Row fit (line j xs) (before j (at .within) .shows) (x .0) (fit (x .0) (p .0)) (at .here ∙ front-is) in
-        (shows-from Row fit (line k xs) (Some x) p e,
-        (j, at .within, record { first = hit-parts (meaning (line j xs)) (x .0) hit .0; second = ap taken means; row = cells ∙ sym (ap row-at means) }))
+        let hit = hits-from Row fit (line j xs) (before j (at .within) .shows) (x .0) (fit (x .0) (p .0)) (at .here ∙ front-is) in (
+          shows-from Row fit (line k xs) (Some x) p e,
+          (j, at .within, record { first = hit-parts (meaning (line j xs)) (x .0) hit .0; second = ap taken means; row = cells ∙ sym (ap row-at means) }),
+        )
 
 pub accepted : (sig ns : List ℕ) (M : Meaning) → Kind-sound M → (xs : List ℕ) → sig ≡ ns → Arities ns → Sizes xs → Good-to (Row-cells sig M) xs (lines-in xs) → Accepted ns M xs xs
 accepted sig ns M sound xs e a z g =

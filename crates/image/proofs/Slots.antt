@@ -2,11 +2,11 @@
 use mathlib.Core.Path.{_≡_, refl, sym, ap, _∙_, subst}
 use mathlib.Core.List.{List, [], _∷_, _++_}
 use mathlib.Core.Logic.{⊎-elim}
-use Prim.Native.Nat.{ℕ, _+_, _-_, _*_, _^_, _<_, _≤_, zero, suc, zero-le, suc-le-suc}
+use Prim.Native.Nat.{ℕ, _+_, _*_, _<_, _≤_, zero, suc, zero-le, suc-le-suc}
 use native.Mathlib.Omega.{arith}
 use native.Mathlib.Numerals.{add-one}
 use borrow.Rule.Slice.PartMut.{putMid}
-use lib.ListN.{length, replicate, take, drop, getD, set}
+use lib.ListN.{length, take, drop, getD, set}
 use lib.Seq.{take-add, take-length}
 use Rattle.std.specs.Finite.{nth}
 use Rattle.std.specs.Vec.{listOf}
@@ -31,9 +31,10 @@ use Rattle.image.specs.Lines.{Small, slot-text, slots, shown, blank-line, fiel
 
 -- two lists in two parts, the first as long
 pub split : {X : Type 0} (xs ys us vs : List X) → length xs ≡ length us → xs ++ ys ≡ us ++ vs → (xs ≡ us) × (ys ≡ vs)
-split xs ys us vs l e =
-    (sym (take-at xs ys (length xs) refl) ∙ ap (take (length xs)) e ∙ take-at us vs (length xs) (sym l),
-    sym (drop-at xs ys (length xs) refl) ∙ ap (drop (length xs)) e ∙ drop-at us vs (length xs) (sym l))
+split xs ys us vs l e = (
+  sym (take-at xs ys (length xs) refl) ∙ ap (take (length xs)) e ∙ take-at us vs (length xs) (sym l),
+  sym (drop-at xs ys (length xs) refl) ∙ ap (drop (length xs)) e ∙ drop-at us vs (length xs) (sym l),
+)
 
 -- cells by place
 abbrev pub Little : Option Cell → Type 0
@@ -133,17 +134,17 @@ module _ (line : List ℕ) (cs : List Cell) (scan : Scanned line cs) (ds : List 
   agrees m few e =
       ⊎-elim
       (λ past.
-          let k = length cs in
-          let at : slots k ds ≡ slots k cs = sym (slots-front m k ds small (omega arith)) ∙ ap (take (k * 10)) e ∙ front-less k m line (omega arith) ∙ scan .front in
-          let same : take k ds ≡ cs = take-from-slots k ds cs small (scan .small) at ∙ take-length cs in
-          let next : slots k ds ++ slot-text (nth ds k) ≡ take (k * 10) line ++ field k line =
-              sym (slots-more k ds) ∙ sym (slots-front m (k + 1) ds small (omega arith)) ∙ ap (take ((k + 1) * 10)) e ∙ front-less (k + 1) m line (omega arith) ∙ front-more k line in
-          let p = split (slots k ds) (slot-text (nth ds k)) (take (k * 10) line) (field k line) (ap length (at ∙ sym (scan .front))) next in
-          let short : length ds ≤ k = ends (nth ds k) refl (little ds k small) (p .1) (omega arith) in
-          take-all m ds (omega arith) ∙ sym (take-all k ds short) ∙ same ∙ sym (take-all m cs (omega arith)))
+      let k = length cs in
+      let at : slots k ds ≡ slots k cs = sym (slots-front m k ds small (omega arith)) ∙ ap (take (k * 10)) e ∙ front-less k m line (omega arith) ∙ scan .front in
+      let same : take k ds ≡ cs = take-from-slots k ds cs small (scan .small) at ∙ take-length cs in
+      let next : slots k ds ++ slot-text (nth ds k) ≡ take (k * 10) line ++ field k line =
+      sym (slots-more k ds) ∙ sym (slots-front m (k + 1) ds small (omega arith)) ∙ ap (take ((k + 1) * 10)) e ∙ front-less (k + 1) m line (omega arith) ∙ front-more k line in
+      let p = split (slots k ds) (slot-text (nth ds k)) (take (k * 10) line) (field k line) (ap length (at ∙ sym (scan .front))) next in
+      let short : length ds ≤ k = ends (nth ds k) refl (little ds k small) (p .1) (omega arith) in
+      take-all m ds (omega arith) ∙ sym (take-all k ds short) ∙ same ∙ sym (take-all m cs (omega arith)))
       (λ within.
-          take-from-slots m ds cs small (scan .small)
-          (e ∙ sym (front-less m (length cs) line within) ∙ ap (take (m * 10)) (scan .front) ∙ slots-front (length cs) m cs (scan .small) within))
+      take-from-slots m ds cs small (scan .small)
+      (e ∙ sym (front-less m (length cs) line within) ∙ ap (take (m * 10)) (scan .front) ∙ slots-front (length cs) m cs (scan .small) within))
       (cases-lt (length cs) m)
     where
       ends : (o : Option Cell) → nth ds (length cs) ≡ o → Little o → slot-text o ≡ field (length cs) line → length cs < 12 → length ds ≤ length cs

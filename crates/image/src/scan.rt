@@ -4,8 +4,8 @@ ghost use mathlib.Core.List.{[], _∷_, _++_};
 ghost use Prim.Native.Nat.{_<_};
 ghost use lib.ListN.{length};
 ghost use Rattle.image.specs.Lines.{found-in, Scanned};
-use columns::cell::read_cell;
 use crate::cells::Cells;
+use columns::cell::read_cell;
 use terms::cell::BLANK;
 use terms::cell::Cell;
 

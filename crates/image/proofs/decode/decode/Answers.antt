@@ -1,6 +1,6 @@
-use mathlib.Core.Path.{_≡_, refl, sym, ap, _∙_, subst}
+use mathlib.Core.Path.{_≡_, sym, ap, _∙_, subst}
 use mathlib.Core.List.{List}
-use Prim.Native.Nat.{ℕ, _<_, _≤_, _^_}
+use Prim.Native.Nat.{ℕ, _≤_}
 use native.Mathlib.Omega.{arith}
 use lib.ListN.{length, take, drop}
 use Rattle.std.proofs.shelf.Tests.{both-ways}
@@ -51,11 +51,12 @@ pub returns-in-rest : need.returns-in-rest
 returns-in-rest g c =
     let M = g .K·Kind .means (c .args .kind .now) in
     let sig = c .args .signature .now .arities in
-    let line = c .args .line .now in
-    (tt,
-    good-first (Row-cells sig M) (row-storable M (g .K·Kind·met .sound (c .args .kind .now)) sig) line (c .pre) (c .as-slice-cells .result .now)
-    (subst (Scanned line) (sym (c .as-slice-cells .ensures)) (c .read-cells-found .ensures)) (c .in-rest .ensures tt) (c .in-rest-first-marked .ensures tt)
-    (tail-blank line (c .pre) (c .is-blank .ensures .0 (c .if-not-is-blank .left))) (c .if-line-ne10 .left))
+    let line = c .args .line .now in (
+      tt,
+      good-first (Row-cells sig M) (row-storable M (g .K·Kind·met .sound (c .args .kind .now)) sig) line (c .pre) (c .as-slice-cells .result .now)
+          (subst (Scanned line) (sym (c .as-slice-cells .ensures)) (c .read-cells-found .ensures)) (c .in-rest .ensures tt) (c .in-rest-first-marked .ensures tt)
+          (tail-blank line (c .pre) (c .is-blank .ensures .0 (c .if-not-is-blank .left))) (c .if-line-ne10 .left),
+    )
 
 pub returns-in-Err : need.returns-in-Err
 returns-in-Err g c =

@@ -1,4 +1,4 @@
-use mathlib.Core.Path.{_≡_, refl, sym, ap, _∙_, subst}
+use mathlib.Core.Path.{_≡_, refl, sym, _∙_, subst}
 use mathlib.Core.List.{List}
 use mathlib.Core.Logic.{inl, inr}
 use Prim.Native.Nat.{ℕ, _+_, _-_, _*_}
@@ -11,7 +11,6 @@ use Rattle.terms.specs.Proper.{Row-cells}
 use Rattle.stores.specs.declared.entry.Entry.{Entry}
 use Rattle.stores.specs.Table.{holding-of}
 use Rattle.image.specs.Texts.{Bad-field, Decoded}
-use Rattle.image.specs.Meaning.{line}
 use Rattle.image.proofs.Cutting.{bad-within}
 use Rattle.image.proofs.Decided.{row-storable}
 use Rattle.image.proofs.Meanings.{line-is, line-part}
@@ -62,6 +61,6 @@ returns-in-Some-place-of g c =
     let sig = c .args .signature .now .arities in
     let e = at-variant (Row-cells sig M) _ (c .in-Ok .shown) (Some (c .in-Some .-entry)) (c .in-Some .is) (c .in-Ok .ensures tt) in
     let a = again (Row-cells sig M) (row-storable M (g .K·Kind·met .sound (c .args .kind .now)) sig) xs k (c .pre .before)
-          (holding-of (c .in-Some .-entry)) (e .0) (sym (line-is k ((k * 128 + 128) - k * 128) xs (omega arith)) ∙ e .1)
-          _ (line-part k ((k * 128 + 120) - k * 128) 120 xs (omega arith) (omega arith)) (c .in-Some-place-of .field-0) (c .in-Some-place-of .ensures tt) in
+    (holding-of (c .in-Some .-entry)) (e .0) (sym (line-is k ((k * 128 + 128) - k * 128) xs (omega arith)) ∙ e .1)
+    _ (line-part k ((k * 128 + 120) - k * 128) 120 xs (omega arith) (omega arith)) (c .in-Some-place-of .field-0) (c .in-Some-place-of .ensures tt) in
     inr (refl, a .0, a .1)
