@@ -3,13 +3,13 @@ use mathlib.Core.Path.{_≡_, refl, sym, ap, _∙_, subst}
 use mathlib.Core.List.{List, [], _∷_, _++_, map}
 use mathlib.Core.Bool.{cond}
 use mathlib.Core.Logic.{⊎-elim}
-use Prim.Native.Nat.{ℕ, zero, suc, _+_, _-_, _*_, _/_, _%_, _^_, _<_, _≤_}
+use Prim.Native.Nat.{ℕ, zero, suc, _+_, _-_, _/_, _%_, _^_, _<_, _≤_}
 use native.Mathlib.Omega.{arith}
 use lib.Dec.{eqb, ltb}
 use lib.ListN.{length, replicate, take, drop, getD, set}
 use Rattle.std.specs.Written.{decimal}
-use Rattle.std.specs.shelf.Digits.{digitsOf, number, numberAfter, Under}
-use Rattle.std.proofs.shelf.Digits.{digitsOf-step, number-digitsOf, number-lt, number-more, numberAfter-append, numberAfter-ge, under-digitsOf}
+use Rattle.std.specs.shelf.Digits.{digitsOf, number, Under}
+use Rattle.std.proofs.shelf.Digits.{digitsOf-step, number-digitsOf, number-lt, numberAfter-append, numberAfter-ge, under-digitsOf}
 use Rattle.std.proofs.shelf.Decimals.{decimal-digit, decimal-step, decimal-digitsOf, decimal-some, length-decimal-le}
 use Rattle.std.proofs.shelf.Lists.{append-nil, append-assoc, length-map, map-append, length-append, length-replicate, replicate-more, length-set, drop-set-lt, drop-all, drop-more, getD-at, getD-set-same, take-append-drop, same-from-push}
 use Rattle.std.proofs.shelf.Tests.{cases-eq, cases-lt, eq-eqb, ne-eqb, cond-true, cond-false, lt-ltb, le-ltb}

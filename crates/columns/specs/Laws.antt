@@ -1,6 +1,5 @@
 -- What the columns show is one thing at most.
 use mathlib.Core.Path.{_≡_}
-use mathlib.Core.List.{List}
 use Prim.Native.Nat.{ℕ, _^_, _<_}
 use Rattle.terms.specs.declared.cell.Cell.{Cell}
 use Rattle.columns.specs.Columns.{blank, columns, cell-text, Short}

@@ -1,5 +1,4 @@
 // Cells in ten columns: the letter, and the number in nine.
-ghost use mathlib.Core.Path.{_≡_};
 ghost use Rattle.columns.specs.Columns.{Reads-cell, Writes-cell};
 use crate::number::NoRoom;
 use crate::number::read_number;

@@ -1,13 +1,13 @@
 -- An image after a write to one line.
 use mathlib.Core.Path.{_≡_, refl, sym, ap, _∙_, subst}
-use mathlib.Core.List.{List, []}
-use mathlib.Core.Bool.{Bool, true, false}
+use mathlib.Core.List.{List}
+use mathlib.Core.Bool.{true, false}
 use mathlib.Core.Logic.{inl, inr, ⊎-elim}
 use Prim.Native.Nat.{ℕ, _+_, _*_, _/_, _^_, _<_, _≤_}
 use native.Mathlib.Omega.{arith}
 use borrow.Rule.Slice.PartMut.{putMid}
 use lib.ListN.{length, take, drop, getD, set}
-use Rattle.std.specs.Options.{Cases as BySome, mapped}
+use Rattle.std.specs.Options.{Cases as BySome}
 use Rattle.std.specs.shelf.Lists.{countBy}
 use Rattle.std.specs.declared.option.Option.{Option}
 use Rattle.std.specs.declared.option.Option.the-variants.{Some, None}
@@ -16,17 +16,17 @@ use Rattle.std.proofs.shelf.Lists.{take-take, drop-drop, drop-take}
 use Rattle.std.proofs.shelf.Tests.{cases-eq, cases-bool, both-ways}
 use Rattle.terms.specs.declared.cell.Cell.{Cell}
 use Rattle.columns.specs.Columns.{columns, Reads}
-use Rattle.columns.proofs.Numbers.{columns-same, columns-length, columns-below}
+use Rattle.columns.proofs.Numbers.{columns-same, columns-length}
 use Rattle.stores.specs.declared.fault.StoreFault.the-variants.{Full}
-use Rattle.stores.specs.Means.{Put, Dropped}
-use Rattle.stores.specs.Places.{Holding, Place, row-at, count-at, taken, hits, held, rows-in, look, Apart, NoHit, AtHit, AtFree}
+use Rattle.stores.specs.Means.{Put}
+use Rattle.stores.specs.Places.{Place, count-at, taken, hits, held, rows-in, look, Apart, NoHit, AtFree}
 use Rattle.stores.specs.Rows.{Storable}
 use Rattle.stores.proofs.Writes.{Put-list, Drop-list, hit-find, hit-apart, put-hit, drop-hit, drop-none, put-full, free-apart, put-free}
 use Rattle.stores.proofs.Puts.{put-means, drop-means}
 use Rattle.image.specs.Lines.{slots, shown, blank-line}
 use Rattle.image.specs.Texts.{Proper, text}
 use Rattle.image.specs.Meaning.{line, lines-in, meaning, entries, Shows, Sound, NoKey, AtKey, FirstFree}
-use Rattle.image.specs.Change.{OnlyLine, AtRow, NoRow, Wrote, Written, Removed}
+use Rattle.image.specs.Change.{OnlyLine, AtRow, NoRow, Written, Removed}
 use Rattle.image.proofs.Decoding.{text-front, text-length, tail-in}
 use Rattle.image.proofs.Parts.{only-line}
 use Rattle.image.proofs.Meanings.{hits-from, front-from, entries-length, entries-at, entries-set, shows-from, meaning-from, fit-tail, idle}

@@ -3,7 +3,7 @@ use mathlib.Core.Path.{_≡_, refl, sym, ap, _∙_, subst}
 use mathlib.Core.List.{List, [], _∷_}
 use mathlib.Core.Bool.{Bool, true, false}
 use mathlib.Core.Logic.{⊎-elim}
-use Prim.Native.Nat.{ℕ, _+_, _^_, _<_, _≤_}
+use Prim.Native.Nat.{ℕ, _^_, _<_, _≤_}
 use native.Mathlib.Omega.{arith}
 use lib.Dec.{eqb}
 use lib.ListN.{length, take, drop, getD}
@@ -13,7 +13,6 @@ use Rattle.std.specs.declared.option.Option.the-variants.{Some, None}
 use Rattle.std.specs.shelf.Lists.{All}
 use Rattle.std.proofs.shelf.Lists.{nil-from-length}
 use Rattle.std.proofs.shelf.Tests.{cases-lt}
-use Rattle.refusals.specs.Places.{First-fault}
 use Rattle.kinds.specs.Meaning.{Meaning, Sound, Value, Under}
 use Rattle.terms.specs.declared.cell.Cell.{Cell}
 use Rattle.terms.specs.declared.fault.PatternFault.{PatternFault}
@@ -26,7 +25,7 @@ use Rattle.columns.proofs.Numbers.{columns-below}
 use Rattle.stores.specs.declared.key.Key.{Key}
 use Rattle.stores.specs.Rows.{Storable, cells-of}
 use Rattle.stores.proofs.Laying.{storable-key}
-use Rattle.image.specs.Lines.{Small, Blanks, Marked, Scanned, shown, blank-line}
+use Rattle.image.specs.Lines.{Blanks, Marked, Scanned, shown, blank-line}
 use Rattle.image.specs.Texts.{Proper, Bad-field}
 use Rattle.image.proofs.Decoding.{first-bad, bad-cell, bad-mark, bad-tail, bad-end, good, blank-wrong, count-wrong, large-wrong, tail-seven}
 

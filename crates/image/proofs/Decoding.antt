@@ -15,12 +15,12 @@ use Rattle.refusals.specs.Places.{First-fault}
 use Rattle.terms.specs.declared.cell.Cell.{Cell}
 use Rattle.columns.specs.Columns.{blank, columns}
 use Rattle.columns.proofs.Numbers.{columns-length, columns-same}
-use Rattle.stores.specs.Places.{Holding, Place, row-at}
+use Rattle.stores.specs.Places.{Place, row-at}
 use Rattle.stores.specs.Rows.{Storable}
 use Rattle.image.specs.Lines.{Small, slot-text, slots, shown, blank-line, field, Blanks, Marked, Scanned}
-use Rattle.image.specs.Texts.{Proper, text, fields, Line-fields, Bad-field}
+use Rattle.image.specs.Texts.{Proper, text, fields, Bad-field}
 use Rattle.image.proofs.Cutting.{reach, reach-cell, fields-length, fields-from, fields-to}
-use Rattle.image.proofs.Slots.{split, slots-length, slots-more, take-slots, slots-front, slots-from-take, take-from-slots, front-more, front-less, agrees, blanks-front}
+use Rattle.image.proofs.Slots.{split, slots-length, slots-more, take-slots, slots-front, slots-from-take, front-more, front-less, agrees, blanks-front}
 
 -- the first bad field, by the bytes up to it
 pub record Bad (Row : List Cell → Type 0) (line : List ℕ) (f : ℕ) : Type 0 where
@@ -223,22 +223,6 @@ module _ (Row : List Cell → Type 0) (fit : (cs : List Cell) → Row cs → Sto
   pub large-wrong : 0 < length cs → (n : ℕ) → tail ≡ columns 7 n → n < 10 ^ 7 → 999999 < n → (x : Place) → Proper Row x → row-at x ≡ cs → tail-in x ≡ tail → ⊥
   large-wrong some n e h large None p c t = let l = ap length c in omega arith
   large-wrong some n e h large (Some x) p c t = let k = p .1 in let s = columns-same 7 (x .1) n (omega arith) (omega arith) (t ∙ e) in omega arith
-
--- what a line shows is one thing
-pub text-same : (Row : List Cell → Type 0) (fit : (cs : List Cell) → Row cs → Storable cs) (a b : Place) → Proper Row a → Proper Row b → text a ≡ text b → a ≡ b
-text-same Row fit a b pa pb e =
-    let c : take 12 (row-at a) ≡ take 12 (row-at b) = take-from-slots 12 (row-at a) (row-at b) (small-in Row fit a pa) (small-in Row fit b pb) (sym (text-front Row fit a pa 12 (omega arith)) ∙ ap (take 120) e ∙ text-front Row fit b pb 12 (omega arith)) in
-    let cells : row-at a ≡ row-at b = sym (take-all 12 (row-at a) (few-in Row fit a pa)) ∙ c ∙ take-all 12 (row-at b) (few-in Row fit b pb) in
-    let t = split (slots 12 (row-at a)) (tail-in a) (slots 12 (row-at b)) (tail-in b) (ap (λ x. length (slots 12 x)) cells) (sym (text-tail Row fit a pa) ∙ ap (take 127) e ∙ text-tail Row fit b pb) in
-    from a b pa pb cells (t .1)
-  where
-    from : (a b : Place) → Proper Row a → Proper Row b → row-at a ≡ row-at b → tail-in a ≡ tail-in b → a ≡ b
-    from None None pa pb c t = refl
-    from None (Some y) pa pb c t = absurd (let s = fit (y .0) (pb .0) .some in let l = ap length c in omega arith)
-    from (Some x) None pa pb c t = absurd (let s = fit (x .0) (pa .0) .some in let l = ap length c in omega arith)
-    from (Some x) (Some y) pa pb c t =
-        let n : x .1 ≡ y .1 = columns-same 7 (x .1) (y .1) (let h = pa .1 in omega arith) (let h = pb .1 in omega arith) t in
-        ap (λ v. Some (v, x .1)) c ∙ ap (λ v. Some (y .0, v)) n
 
 pub tail-seven : (line : List ℕ) → length line ≡ 128 → length (take 7 (drop 120 line)) ≡ 7
 tail-seven line l = let d = length-drop 120 line in length-take-le 7 (drop 120 line) (omega arith)

@@ -6,3 +6,4 @@ mod Meanings
 mod Parts
 mod Changing
 mod Opening
+mod Exact

@@ -1,7 +1,7 @@
 -- What lines mean, and which line is whose.
 use mathlib.Core.Path.{_≡_, refl, sym, ap, _∙_, subst}
 use mathlib.Core.List.{List, [], _∷_, _++_, map}
-use mathlib.Core.Bool.{Bool, true, false, cond}
+use mathlib.Core.Bool.{true, false, cond}
 use mathlib.Core.Logic.{⊎-elim}
 use Prim.Native.Nat.{ℕ, _+_, _*_, _/_, _^_, _<_, _≤_, zero, suc}
 use native.Mathlib.Omega.{arith}
@@ -208,9 +208,6 @@ module _ (o : Place) (cs : List Cell) (tail : List ℕ) (k : Row-and-count o cs 
 
   pub read-back : (ds : List Cell) (m v : ℕ) → ds ≡ cs → m ≡ v → v < 2 ^ 32 → Reads tail (Some v) → Some (ds, m) ≡ o
   read-back ds m v d e h r = ap (λ xs. Some (xs, m)) d ∙ ap (λ n. Some (cs, n)) (e ∙ tail-count v h r) ∙ sym (k .same)
-
-pub fit-length : (s : List ℕ) → Shows Storable s → length s ≡ 128
-fit-length s w = shows-length Storable idle s w
 
 pub fit-tail : (s : List ℕ) → Shows Storable s → take 7 (drop 120 s) ≡ tail-in (meaning s)
 fit-tail s w = shows-tail Storable idle s w

@@ -2,11 +2,11 @@
 use mathlib.Core.Path.{_≡_, refl, sym, ap, _∙_, subst}
 use mathlib.Core.List.{List, [], _∷_, _++_}
 use mathlib.Core.Logic.{⊎-elim}
-use Prim.Native.Nat.{ℕ, _+_, _-_, _*_, _^_, _<_, _≤_, zero, suc, zero-le, suc-le-suc}
+use Prim.Native.Nat.{ℕ, _+_, _*_, _<_, _≤_, zero, suc, zero-le, suc-le-suc}
 use native.Mathlib.Omega.{arith}
 use native.Mathlib.Numerals.{add-one}
 use borrow.Rule.Slice.PartMut.{putMid}
-use lib.ListN.{length, replicate, take, drop, getD, set}
+use lib.ListN.{length, take, drop, getD, set}
 use lib.Seq.{take-add, take-length}
 use Rattle.std.specs.Finite.{nth}
 use Rattle.std.specs.Vec.{listOf}

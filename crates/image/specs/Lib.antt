@@ -5,3 +5,4 @@ pub mod Change
 pub mod Tested
 pub mod Faults
 pub mod Open
+pub mod Laws

@@ -7,6 +7,7 @@ ghost use Rattle.refusals.specs.Checks.{Checked};
 ghost use Rattle.terms.specs.Proper.{Row-cells};
 ghost use Rattle.stores.specs.Rows.{Storable};
 ghost use Rattle.stores.specs.declared.fault.StoreFault.the-variants.{Length};
+ghost use Rattle.image.specs.Laws.{Exactly};
 ghost use Rattle.image.specs.Meaning.{lines-in, Sound};
 ghost use Rattle.image.specs.Open.{Sizes, Good-to, Line-checked, Lines-checked, Accepted, Refused};
 use crate::decode::decode;
@@ -94,4 +95,11 @@ impl<'a> Lines<'a> {
     {
         Image { lines: self }
     }
+}
+
+// Asks for the theorem that an opening accepts exactly the images of places, and that they mean these.
+pub fn opening_stands<K: Kind>(signature: &Signature, kind: &K) -> u8
+    ensures { λ _. ⌜ Exactly (Row-cells (now (signature .entry) .arities) (K·Kind .means (now (kind .entry)))) ⌝ }
+{
+    0
 }

@@ -1,8 +1,8 @@
 -- A table after a write to one of its records.
-use mathlib.Core.Path.{_≡_, refl, sym, ap, _∙_, subst}
+use mathlib.Core.Path.{_≡_, refl, sym, _∙_, subst}
 use mathlib.Core.List.{List}
 use mathlib.Core.Bool.{true, false}
-use Prim.Native.Nat.{ℕ, _≤_}
+use Prim.Native.Nat.{ℕ}
 use lib.ListN.{length, set}
 use Rattle.std.specs.declared.option.Option.the-variants.{Some, None}
 use Rattle.std.specs.declared.result.Result.the-variants.{Ok, Err}
@@ -14,7 +14,7 @@ use Rattle.stores.specs.declared.entry.Record.{Record}
 use Rattle.stores.specs.declared.entry.Record.the-variants.{Free, Used}
 use Rattle.stores.specs.declared.fault.StoreFault.the-variants.{Full}
 use Rattle.stores.specs.Means.{count-of, row-of, Put, Dropped}
-use Rattle.stores.specs.Places.{Place, taken, held, rows-in, look, Apart, NoHit, AtHit, AtFree}
+use Rattle.stores.specs.Places.{taken, held, rows-in, look, Apart, NoHit, AtHit, AtFree}
 use Rattle.stores.specs.Table.{place-of, holding-of, contents}
 use Rattle.stores.proofs.Writes.{Put-list, Drop-list, hit-apart, put-hit, drop-hit, drop-none, put-full, free-apart, put-free}
 use Rattle.stores.proofs.Puts.{put-means, drop-means}

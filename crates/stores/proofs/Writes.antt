@@ -3,7 +3,7 @@ use mathlib.Core.Path.{_≡_, refl, sym, ap, subst, _∙_}
 use mathlib.Core.List.{List, [], _∷_}
 use mathlib.Core.Bool.{Bool, true, false, cond, not, _&&_}
 use mathlib.Core.Logic.{⊎-elim}
-use Prim.Native.Nat.{ℕ, zero, suc, _+_, _-_, _<_, _≤_}
+use Prim.Native.Nat.{ℕ, zero, suc, _+_, _-_, _<_}
 use native.Mathlib.Omega.{arith}
 use lib.ListN.{length, getD, set, drop}
 use Rattle.std.specs.Finite.{nth}
@@ -89,7 +89,7 @@ apart-used : (b : Bool) (row : List Cell) (n : ℕ) (es : List Holding) → Apar
 apart-used true row n es h = let p = and-parts (not (isSome (look es row))) _ h in (λ _. none-from (look es row) (not-true _ (p .0)), p .1)
 apart-used false row n es h = (λ e. absurd (both-ways false refl e), h)
 
-apart-parts : (r : Place) (rs : List Place) → Apart (held (r ∷ rs)) → (taken r ≡ true → find rs (row-at r) ≡ None) × Apart (held rs)
+pub apart-parts : (r : Place) (rs : List Place) → Apart (held (r ∷ rs)) → (taken r ≡ true → find rs (row-at r) ≡ None) × Apart (held rs)
 apart-parts r rs h = apart-used (taken r) (row-at r) (count-at r) (held rs) h
 
 made-used : (b : Bool) (row : List Cell) (n : ℕ) (es : List Holding) → (b ≡ true → look es row ≡ None) → Apart es → Apart (cond b ((row, n) ∷ es) es)

@@ -1,6 +1,6 @@
 -- Places as a map from rows to counts, with its rows: what the ghost members of stores cite.
 use mathlib.Core.Path.{_≡_, refl, sym, ap, _∙_}
-use mathlib.Core.Logic.{_⊎_, inl, inr}
+use mathlib.Core.Logic.{inl, inr}
 use mathlib.Core.List.{List, [], _∷_}
 use mathlib.Core.Bool.{Bool, true, false, cond, not}
 use Prim.Native.Nat.{ℕ, suc, _+_, _≤_}
@@ -12,7 +12,7 @@ use Rattle.std.specs.declared.option.Option.the-variants.{Some, None}
 use Rattle.std.specs.shelf.Lists.{All, countBy}
 use Rattle.std.proofs.shelf.Sums.{sumBy-cons, countBy-le-length}
 use Rattle.std.proofs.shelf.Tests.{cond-true, and-parts, not-true, both-ways}
-use Rattle.maps.specs.Maps.{Map, In, Once, Listed}
+use Rattle.maps.specs.Maps.{In, Once, Listed}
 use Rattle.terms.specs.declared.cell.Cell.{Cell}
 use Rattle.stores.specs.Rows.{same, same-true, same-self}
 use Rattle.stores.specs.Places.{Holding, Place, taken, row-at, count-at, held, rows-in, look, apart, Apart}

@@ -1,4 +1,3 @@
-use mathlib.Core.Path.{ap}
 use native.Mathlib.Omega.{arith}
 use Rattle.columns.proofs.Numbers.{columns-same, columns-unblank}
 use Rattle.columns.proofs.Cells.{cell-same, cell-marked}

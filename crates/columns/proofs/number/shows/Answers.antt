@@ -1,8 +1,6 @@
-use mathlib.Core.Path.{_≡_, refl, sym, ap, _∙_}
-use Prim.Native.Nat.{ℕ, _+_, _-_, _≤_}
+use mathlib.Core.Path.{refl, sym, _∙_}
+use Prim.Native.Nat.{_-_}
 use native.Mathlib.Omega.{arith}
-use lib.ListN.{length}
-use Rattle.std.specs.Written.{decimal}
 use Rattle.std.proofs.shelf.Tests.{false≢true}
 use Rattle.columns.proofs.Numbers.{columns-fits, done-first, done-next, done-last, shown-last, shown-next}
 use Rattle.columns.proofs.number.shows.Needs as need

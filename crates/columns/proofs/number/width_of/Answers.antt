@@ -1,5 +1,4 @@
 use native.Mathlib.Omega.{arith}
-use Prim.Native.Nat.{_/_}
 use Rattle.columns.proofs.Numbers.{front-length, front-none, decimal-length}
 use Rattle.columns.proofs.number.width_of.Needs as need
 

@@ -1,10 +1,8 @@
-use mathlib.Core.Path.{_≡_, sym, ap, _∙_}
-use Prim.Native.Nat.{ℕ, _+_, _-_, _≤_}
+use mathlib.Core.Path.{ap, _∙_}
+use Prim.Native.Nat.{_-_}
 use native.Mathlib.Omega.{arith}
-use lib.ListN.{length}
-use Rattle.std.specs.Written.{decimal}
 use Rattle.std.proofs.shelf.Lists.{length-set}
-use Rattle.columns.specs.Columns.{columns, pad}
+use Rattle.columns.specs.Columns.{columns}
 use Rattle.columns.proofs.Numbers.{write-first, write-next, done-last}
 use Rattle.columns.proofs.number.write_number.Needs as need
 

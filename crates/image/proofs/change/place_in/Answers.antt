@@ -1,4 +1,3 @@
-use lib.ListN.{length}
 use Rattle.stores.specs.Rows.{cells-of}
 use Rattle.stores.proofs.Laying.{storable-key}
 use Rattle.image.proofs.Changing.{row-front, placed}

@@ -1,13 +1,13 @@
-use mathlib.Core.Path.{_≡_, refl, sym, ap, _∙_}
-use Prim.Native.Nat.{ℕ, _+_, _-_, _*_, _/_, _<_}
+use mathlib.Core.Path.{_≡_, sym, ap, _∙_}
+use Prim.Native.Nat.{_+_, _-_, _*_}
 use native.Mathlib.Omega.{arith}
 use borrow.Author.Count.{below-more}
-use lib.ListN.{length, take, drop}
-use Rattle.std.proofs.shelf.Lists.{length-take-le, length-drop}
+use lib.ListN.{length, take}
+use Rattle.std.proofs.shelf.Lists.{length-take-le}
 use Rattle.std.proofs.shelf.Tests.{both-ways}
 use Rattle.columns.specs.Columns.{blank}
 use Rattle.stores.specs.Places.{taken}
-use Rattle.image.specs.Meaning.{line, meaning, entries}
+use Rattle.image.specs.Meaning.{line, entries}
 use Rattle.image.proofs.Meanings.{line-part, line-length, head-is, free-from, taken-from, entries-length, entries-at, count-all}
 use Rattle.image.proofs.lines.first_blank.Needs as need
 

@@ -1,7 +1,7 @@
-use mathlib.Core.Path.{_≡_, refl, sym, ap, _∙_}
-use Prim.Native.Nat.{ℕ, _+_, _-_, _*_, _/_, _<_}
+use mathlib.Core.Path.{_≡_, sym, ap, _∙_}
+use Prim.Native.Nat.{_+_, _-_, _*_}
 use native.Mathlib.Omega.{arith}
-use lib.ListN.{length, take, drop}
+use lib.ListN.{length, take}
 use Rattle.std.specs.shelf.Lists.{countBy}
 use Rattle.std.specs.declared.option.Option.the-variants.{None}
 use Rattle.std.proofs.shelf.Lists.{length-take-le, take-all}
@@ -9,7 +9,7 @@ use Rattle.std.proofs.shelf.Sums.{countBy-le-length, countBy-more-yes, countBy-
 use Rattle.std.proofs.shelf.Tests.{both-ways}
 use Rattle.columns.specs.Columns.{blank}
 use Rattle.stores.specs.Places.{taken}
-use Rattle.image.specs.Meaning.{line, meaning, entries}
+use Rattle.image.specs.Meaning.{line, entries}
 use Rattle.image.proofs.Meanings.{line-part, line-length, head-is, free-from, taken-from, entries-length, entries-at}
 use Rattle.image.proofs.lines.used_lines.Needs as need
 use Rattle.image.proofs.lines.used_lines.Needs.{then-not-is-blank, else-not-is-blank}

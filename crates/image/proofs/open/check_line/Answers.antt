@@ -1,4 +1,4 @@
-use mathlib.Core.Path.{_≡_, refl, sym, ap, _∙_, subst}
+use mathlib.Core.Path.{_≡_, refl, sym, _∙_, subst}
 use mathlib.Core.List.{List}
 use mathlib.Core.Logic.{inl, inr}
 use Prim.Native.Nat.{ℕ, _+_, _-_, _*_}
@@ -11,7 +11,6 @@ use Rattle.terms.specs.Proper.{Row-cells}
 use Rattle.stores.specs.declared.entry.Entry.{Entry}
 use Rattle.stores.specs.Table.{holding-of}
 use Rattle.image.specs.Texts.{Bad-field, Decoded}
-use Rattle.image.specs.Meaning.{line}
 use Rattle.image.proofs.Cutting.{bad-within}
 use Rattle.image.proofs.Decided.{row-storable}
 use Rattle.image.proofs.Meanings.{line-is, line-part}

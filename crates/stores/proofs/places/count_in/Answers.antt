@@ -1,8 +1,8 @@
-use mathlib.Core.Path.{_≡_, sym, ap, _∙_, subst}
+use mathlib.Core.Path.{sym, ap, _∙_}
 use native.Mathlib.Omega.{arith}
 use Rattle.std.specs.declared.option.Option.the-variants.{Some, None}
 use Rattle.stores.specs.Rows.{cells-of}
-use Rattle.stores.specs.Places.{NoHit, hits, count-at}
+use Rattle.stores.specs.Places.{hits, count-at}
 use Rattle.stores.specs.Table.{place-of, contents}
 use Rattle.stores.proofs.Writes.{first-find, none-find}
 use Rattle.stores.proofs.Records.{within, record-at, no-hit-more, hits-same, hits-other, contents-length}
