@@ -1,7 +1,7 @@
 use mathlib.Core.Path.{refl}
 use native.Mathlib.Omega.{arith}
 use lib.ListN.{length}
-use Rattle.manager.specs.declared.entry.Transaction.{Transaction}
+use Rattle.ledger.specs.declared.entry.Transaction.{Transaction}
 use Rattle.manager.specs.Book.{book-of}
 use Rattle.manager.proofs.Opens.{fewer}
 use Rattle.manager.proofs.Sounds.{book-same}
