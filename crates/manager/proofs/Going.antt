@@ -15,7 +15,7 @@ use Rattle.manager.specs.declared.call.Call.{Call}
 use Rattle.manager.specs.declared.call.Answer.{Answer}
 use Rattle.manager.specs.declared.memory.Memory.{Memory}
 use Rattle.manager.specs.declared.state.Manager.{Manager}
-use Rattle.manager.specs.Words.{language}
+use Rattle.ledger.specs.Words.{language}
 use Rattle.manager.specs.Book.{Book, book-of, state-of, Fixed, Well, Sound}
 use Rattle.manager.specs.Calls.{asked-by, told, says, Steps, Made, Ran}
 
@@ -36,8 +36,8 @@ module _ {K : Type 0} (means : K → Meaning) (kind : K) (arities : List ℕ) (f
     told-are = refl;
     kept = start (language arities (means kind)) first (state-of (book-of manager x) first) (record {
       opens = ap (λ b. map (λ t. t .number) (b .transactions)) (made .book);
-      held = ap (λ b. map Rattle.manager.specs.Words.grant-of (b .reservations)) (made .book);
-      pending = ap (λ b. map Rattle.manager.specs.Words.pending-of (b .changes)) (made .book);
+      held = ap (λ b. map Rattle.ledger.specs.Words.grant-of (b .reservations)) (made .book);
+      pending = ap (λ b. map Rattle.ledger.specs.Words.pending-of (b .changes)) (made .book);
       store = λ r. refl;
     });
     well = λ _. subst (Sound (manager .signature .arities) (means (manager .kind))) (sym (made .book)) (record {

@@ -1,9 +1,5 @@
 mod Sounds
 mod Moved
 mod Going
-mod Passes
 mod Opens
 mod Reserves
-mod Rows
-mod Changes
-mod Counting

@@ -21,13 +21,14 @@ use Rattle.serial.specs.Rights.{letter-of, Change, Change.written, Change.struc
 use Rattle.serial.specs.Machine.{Alike, Does, gone, seen}
 use Rattle.manager.specs.declared.fault.ManagerFault.{ManagerFault}
 use Rattle.manager.specs.Faults.{manager-refusal}
-use Rattle.manager.specs.declared.entry.Reservation.{Reservation}
+use Rattle.ledger.specs.declared.entry.Reservation.{Reservation}
 use Rattle.manager.specs.declared.fault.ManagerFault.the-variants.{Pattern, Store, Planner, TransactionsFull, NumbersSpent, NotOpen, Right, ReservationsFull, NoneFits, NotOwn, Count, NoneWrites, ChangesFull, Conflict}
-use Rattle.manager.specs.Words.{language, grant-of, pending-of, right-of}
+use Rattle.ledger.specs.Words.{language, grant-of, pending-of, right-of}
 use Rattle.manager.specs.Book.{Book, state-of}
 use Rattle.manager.specs.Ending.{Begun, Abandoned, Committed, ended, own-map}
 use Rattle.manager.specs.Reserving.{Clear, Reserved, Conflicted, by-conflict, tallied}
-use Rattle.manager.specs.Looking.{Covered, Changed}
+use Rattle.ledger.specs.Covering.{Covered}
+use Rattle.manager.specs.Looking.{Changed}
 use Rattle.manager.specs.Surveying.{Surveyed}
 use Rattle.manager.specs.Calls.{Steps, refused-with, number, count, figures, done}
 

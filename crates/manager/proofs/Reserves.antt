@@ -12,11 +12,11 @@ use Rattle.terms.specs.Fitting.{Description, described}
 use Rattle.compare.specs.declared.sample.Sample.{Sample}
 use Rattle.serial.specs.Rights as rights
 use Rattle.serial.specs.Rights.{letter-of}
-use Rattle.manager.specs.declared.clash.Clash.{Clash}
-use Rattle.manager.specs.declared.entry.Reservation.{Reservation}
+use Rattle.ledger.specs.declared.clash.Clash.{Clash}
+use Rattle.ledger.specs.declared.entry.Reservation.{Reservation}
 use Rattle.manager.specs.declared.fault.ManagerFault.the-variants.{Conflict}
 use Rattle.manager.specs.Book.{Book}
-use Rattle.manager.specs.Clashes.{Clashing, FirstClash, Shown, request}
+use Rattle.ledger.specs.Clashes.{Clashing, FirstClash, Shown, request}
 use Rattle.manager.specs.Reserving.{Clear, Holds, Conflicted, tallied}
 
 module _ (sig : List ℕ) (M : Meaning) (t letter : ℕ) (w : rights.Right) (named : letter ≡ letter-of w) (p q : Description) (read : q ≡ p) where

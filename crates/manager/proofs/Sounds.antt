@@ -18,10 +18,10 @@ use Rattle.rolls.specs.Rolls.{Pushed, without}
 use Rattle.rolls.specs.declared.roll.Full.{Full}
 use Rattle.serial.specs.Machine.{KeysOnce}
 use Rattle.serial.proofs.Rolls.{keys-kept}
-use Rattle.manager.specs.declared.entry.Transaction.{Transaction}
-use Rattle.manager.specs.declared.entry.Reservation.{Reservation}
-use Rattle.manager.specs.declared.entry.PendingChange.{PendingChange}
-use Rattle.manager.specs.Words.{pending-of}
+use Rattle.ledger.specs.declared.entry.Transaction.{Transaction}
+use Rattle.ledger.specs.declared.entry.Reservation.{Reservation}
+use Rattle.ledger.specs.declared.entry.PendingChange.{PendingChange}
+use Rattle.ledger.specs.Words.{pending-of}
 use Rattle.manager.specs.declared.memory.Memory.{Memory}
 use Rattle.manager.specs.declared.state.Manager.{Manager}
 use Rattle.manager.specs.Book.{Book, Given, Sound, Fixed, book-of}

@@ -11,12 +11,12 @@ use Rattle.terms.specs.Fitting.{Description, described}
 use Rattle.terms.specs.Proper.{Row-cells, Proper-pattern}
 use Rattle.stores.specs.Rows.{cells-of}
 use Rattle.serial.specs.Machine.{State, KeysOnce}
-use Rattle.manager.specs.declared.entry.Transaction.{Transaction}
-use Rattle.manager.specs.declared.entry.Reservation.{Reservation}
-use Rattle.manager.specs.declared.entry.PendingChange.{PendingChange}
+use Rattle.ledger.specs.declared.entry.Transaction.{Transaction}
+use Rattle.ledger.specs.declared.entry.Reservation.{Reservation}
+use Rattle.ledger.specs.declared.entry.PendingChange.{PendingChange}
 use Rattle.manager.specs.declared.memory.Memory.{Memory}
 use Rattle.manager.specs.declared.state.Manager.{Manager}
-use Rattle.manager.specs.Words.{grant-of, pending-of}
+use Rattle.ledger.specs.Words.{grant-of, pending-of}
 
 -- the rolls in order of arrival, the last numbers given, and the tally
 pub record Book : Type 0 where

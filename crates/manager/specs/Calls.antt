@@ -35,7 +35,7 @@ use Rattle.manager.specs.declared.fault.ManagerFault.the-variants.{Pattern}
 use Rattle.manager.specs.declared.memory.Memory.{Memory}
 use Rattle.manager.specs.declared.state.Manager.{Manager}
 use Rattle.manager.specs.Faults.{manager-refusal}
-use Rattle.manager.specs.Words.{language}
+use Rattle.ledger.specs.Words.{language}
 use Rattle.manager.specs.Book.{Book, book-of, state-of}
 use Rattle.manager.specs.Checks as checks
 use Rattle.manager.specs.Ending.{sizes}

@@ -5,19 +5,16 @@ use Prim.Native.Nat.{ℕ, suc, _<_, _≤_}
 use lib.Dec.{eqb}
 use lib.ListN.{length}
 use Rattle.std.specs.shelf.Lists.{countBy}
-use Rattle.std.specs.declared.result.Result.{Result}
-use Rattle.std.specs.declared.result.Result.the-variants.{Ok, Err}
-use Rattle.maps.specs.Maps.{Map, Same, Sized}
+use Rattle.maps.specs.Maps.{Map, Same}
 use Rattle.terms.specs.declared.cell.Cell.{Cell}
 use Rattle.rolls.specs.Rolls.{Has, without}
 use Rattle.stores.specs.Rows.{decided}
-use Rattle.stores.specs.declared.fault.StoreFault.{StoreFault}
 use Rattle.stores.specs.declared.fault.StoreFault.the-variants.{Full, Length}
 use Rattle.serial.specs.Machine.{withOwn}
-use Rattle.manager.specs.declared.entry.PendingChange.{PendingChange}
+use Rattle.ledger.specs.Entering.{AtMost}
 use Rattle.manager.specs.declared.fault.ManagerFault.the-variants.{Store, Planner, TransactionsFull, NumbersSpent, NotOpen}
 use Rattle.manager.specs.declared.memory.Memory.{Memory}
-use Rattle.manager.specs.Words.{pending-of}
+use Rattle.ledger.specs.Words.{pending-of}
 use Rattle.manager.specs.Book.{Book, Sizes}
 use Rattle.manager.specs.Checks.{Check, unless}
 
@@ -73,18 +70,6 @@ pub record Abandoned (t : ℕ) (b b′ : Book) (number : ℕ) : Type 0 where
 -- the map as t sees it: what it is to be after t's commit
 abbrev pub own-map : ℕ → Book → Map (List Cell) → Map (List Cell)
 own-map t b m = withOwn decided t (map pending-of (b .changes)) m
-
--- the map has at most so many rows
-pub record AtMost (places : ℕ) (m : Map (List Cell)) : Type 0 where
-  pub size : ℕ
-  pub sized : Sized m size
-  pub within : size ≤ places
-
--- These changes of t's enter a store: refused exactly when the map would have more rows than places, and then nothing has changed.
-abbrev pub Entered : {S : Type 0} → (S → Map (List Cell)) → (S → ℕ) → ℕ → List PendingChange → S → S → Result (Unit {0}) StoreFault → Type 0
-Entered means places t cs s s′ (Ok u) =
-    Same (means s′) (withOwn decided t (map pending-of cs) (means s)) × (places s′ ≡ places s) × AtMost (places s) (withOwn decided t (map pending-of cs) (means s))
-Entered means places t cs s s′ (Err f) = (f ≡ Full) × (AtMost (places s) (withOwn decided t (map pending-of cs) (means s)) → ⊥) × (s′ ≡ s)
 
 abbrev pub commit-checks : Memory → Book → Map (List Cell) → ℕ → ℕ → List Check
 commit-checks x b m places t = sizes x ∷ is-open t b ∷ unless (Store Full) (AtMost places (own-map t b m)) ∷ []

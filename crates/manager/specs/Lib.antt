@@ -1,9 +1,7 @@
 pub mod Faults
-pub mod Words
 pub mod Book
 pub mod Checks
 pub mod Ending
-pub mod Clashes
 pub mod Reserving
 pub mod Looking
 pub mod Surveying

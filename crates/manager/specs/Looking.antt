@@ -1,11 +1,10 @@
 -- Look, write and strike: their checks in order, and what they do.
 use mathlib.Core.Path.{_≡_}
-use mathlib.Core.Bool.{Bool, true, false}
+use mathlib.Core.Bool.{true, false}
 use mathlib.Core.List.{List, [], _∷_, map}
-use Prim.Native.Nat.{ℕ, _<_, _≤_}
-use lib.ListN.{length, take, getD}
+use Prim.Native.Nat.{ℕ, _≤_}
+use lib.ListN.{length}
 use Rattle.std.specs.Options.{isSome}
-use Rattle.std.specs.declared.option.Option.{Option}
 use Rattle.std.specs.declared.result.Result.{Result}
 use Rattle.std.specs.declared.result.Result.the-variants.{Ok, Err}
 use Rattle.kinds.specs.Meaning.{Meaning}
@@ -14,18 +13,17 @@ use Rattle.terms.specs.declared.cell.Cell.{Cell}
 use Rattle.terms.specs.declared.fault.PatternFault.{PatternFault}
 use Rattle.terms.specs.declared.row.Row.{Row}
 use Rattle.terms.specs.Fitting as fitting
-use Rattle.terms.specs.Fitting.{described, Fits}
 use Rattle.terms.specs.Proper.{Row-cells}
 use Rattle.terms.specs.Reading.{Cells-refused}
 use Rattle.stores.specs.Rows.{cells-of, decided}
-use Rattle.serial.specs.Rights.{Change, Right.writing}
+use Rattle.serial.specs.Rights.{Change}
 use Rattle.serial.specs.Machine.{pendingOf, enter}
-use Rattle.manager.specs.declared.entry.PendingChange.{PendingChange}
-use Rattle.manager.specs.declared.entry.Reservation.{Reservation}
+use Rattle.ledger.specs.declared.entry.PendingChange.{PendingChange}
+use Rattle.ledger.specs.Covering.{Covered}
 use Rattle.manager.specs.declared.fault.ManagerFault.{ManagerFault}
 use Rattle.manager.specs.declared.fault.ManagerFault.the-variants.{Pattern, NoneFits, Count, NoneWrites, ChangesFull}
 use Rattle.manager.specs.declared.memory.Memory.{Memory}
-use Rattle.manager.specs.Words.{right-of, pending-of}
+use Rattle.ledger.specs.Words.{pending-of}
 use Rattle.manager.specs.Book.{Book}
 use Rattle.manager.specs.Checks.{Check, unless}
 use Rattle.manager.specs.Ending.{sizes, is-open}
@@ -38,28 +36,6 @@ proper-row sig M cs = (Row-cells sig M cs, λ f. (e : PatternFault) × (f ≡ Pa
 abbrev pub Row-checked : List ℕ → Meaning → List Cell → Result Row ManagerFault → Type 0
 Row-checked sig M cs (Ok r) = (fitting.cells-of r ≡ cs) × Row-cells sig M cs
 Row-checked sig M cs (Err f) = proper-row sig M cs .1 f
-
--- the reservation is t's own and the row fits it; for a change, it is for writing
-pub record Covers (sig : List ℕ) (M : Meaning) (t : ℕ) (row : List Cell) (changing : Bool) (h : Reservation) : Type 0 where
-  pub mine : h .owner ≡ t
-  pub fits : Fits sig M row (described (h .pattern))
-  pub writes : changing ≡ true → right-of (h .right) ≡ writing
-
--- one of the reservations does
-abbrev pub Covered : List ℕ → Meaning → ℕ → List Cell → Bool → List Reservation → Type 0
-Covered sig M t row changing hs = (h : Reservation) × In h hs × Covers sig M t row changing h
-
--- the change is t's for the row
-abbrev pub For : ℕ → List Cell → PendingChange → Type 0
-For t row c = (c .owner ≡ t) × (cells-of (c .row) ≡ row)
-
--- the first change of t's for the row stands at place k
-pub record FirstFor (t : ℕ) (row : List Cell) (cs : List PendingChange) (k : ℕ) : Type 0 where
-  pub change : PendingChange
-  pub within : k < length cs
-  pub there : change ≡ getD cs k change
-  pub here : For t row change
-  pub before : (c : PendingChange) → In c (take k cs) → ¬ For t row c
 
 -- a full roll has a change of t's for the row already
 abbrev pub HasPlace : ℕ → List Cell → Book → Type 0

@@ -16,16 +16,16 @@ use Rattle.compare.specs.declared.sample.Sample.{Sample}
 use Rattle.serial.specs.Rights as rights
 use Rattle.serial.specs.Rights.{letter-of}
 use Rattle.serial.specs.History.{Grant}
-use Rattle.manager.specs.declared.entry.Reservation.{Reservation}
-use Rattle.manager.specs.declared.entry.Right.{Right as Rightᵗ}
+use Rattle.ledger.specs.declared.entry.Reservation.{Reservation}
+use Rattle.ledger.specs.declared.entry.Right.{Right as Rightᵗ}
 use Rattle.manager.specs.declared.fault.ManagerFault.{ManagerFault}
 use Rattle.manager.specs.declared.fault.ManagerFault.the-variants.{Pattern, Store, Planner, TransactionsFull, NumbersSpent, NotOpen, Right, ReservationsFull, NoneFits, NotOwn, Count, NoneWrites, ChangesFull, Conflict}
 use Rattle.manager.specs.declared.memory.Memory.{Memory}
-use Rattle.manager.specs.Words.{right-of}
+use Rattle.ledger.specs.Words.{right-of}
 use Rattle.manager.specs.Book.{Book}
 use Rattle.manager.specs.Checks.{Check, unless}
 use Rattle.manager.specs.Ending.{sizes, is-open}
-use Rattle.manager.specs.Clashes.{Clashing, Shown, request}
+use Rattle.ledger.specs.Clashes.{Clashing, Shown, request}
 
 -- the letter names a right
 abbrev pub Names-right : ℕ → Type 0

@@ -1,68 +1,47 @@
 // Look, write and strike.
 ghost use mathlib.Core.Path.{_≡_};
-ghost use mathlib.Core.Bool.{false, true};
-ghost use mathlib.Core.List.{map};
-ghost use Prim.Native.Nat.{_≤_};
-ghost use lib.ListN.{length};
 ghost use Rattle.std.specs.Options.{Cases, mapped};
-ghost use Rattle.std.specs.Orderings.{Decides, When};
-ghost use Rattle.std.specs.declared.option.Option.the-variants.{None, Some};
+ghost use Rattle.std.specs.Orderings.{When};
 ghost use Rattle.maps.specs.Maps.{In};
 ghost use Rattle.terms.specs.Fitting.{cells-of};
 ghost use Rattle.terms.specs.Proper.{Row-cells};
 ghost use Rattle.stores.specs.Means.{count-of};
-ghost use Rattle.stores.specs.Rows.{Storable, cells-of as key-cells, decided};
+ghost use Rattle.stores.specs.Rows.{cells-of as key-cells};
 ghost use Rattle.unification.specs.Sheets.{Blank};
-ghost use Rattle.serial.specs.Machine.{pendingOf};
 ghost use Rattle.serial.specs.Rights.{Change.struck, Change.written};
-ghost use Rattle.manager.specs.declared.entry.PendingChange.{PendingChange};
-ghost use Rattle.manager.specs.Words.{change-of, pending-of};
+ghost use Rattle.ledger.specs.declared.entry.PendingChange.{PendingChange};
+ghost use Rattle.ledger.specs.Covering.{Covered, FirstFor, For};
+ghost use Rattle.ledger.specs.Words.{change-of};
 ghost use Rattle.manager.specs.Book.{Fixed, Sizes, Well, book-of};
 ghost use Rattle.manager.specs.Checks.{Answers};
 ghost use Rattle.manager.specs.Ending.{own-map};
-ghost use Rattle.manager.specs.Looking.{Changed, Covered, FirstFor, For, HasPlace, look-checks, strike-checks, write-checks};
+ghost use Rattle.manager.specs.Looking.{Changed, HasPlace, Row-checked, look-checks, strike-checks, write-checks};
 use crate::check::check_sizes;
-use crate::entry::PendingChange;
 use crate::fault::ManagerFault;
+use crate::fault::ManagerFaultFromPattern;
 use crate::fault::ManagerFaultFromStore;
-use crate::fitting::covered;
-use crate::fitting::key_of;
-use crate::fitting::read_row;
 use crate::memory::Memory;
 use crate::state::Manager;
 use kinds::kind::Kind;
+use ledger::changes::change_for;
+use ledger::changes::place_of;
+use ledger::entry::PendingChange;
+use ledger::fitting::covered;
+use ledger::fitting::key_of;
 use stores::count::Count;
 use stores::key::Key;
-use stores::keys::KeyPartialEq;
 use stores::store::Store;
 use terms::cell::BLANK;
 use terms::cell::Cell;
 use terms::row::Row;
+use terms::signature::Signature;
 
-// Where the transaction's change for the row stands.
-fn place_of(changes: &[PendingChange], transaction: u32, row: &Key) -> Option<usize>
-    ensures { λ r. ⌜ Cases r ((c : PendingChange) → In c (now (changes .entry)) → ¬ For transaction (key-cells (now (row .entry))) c) (FirstFor transaction (key-cells (now (row .entry))) (now (changes .entry))) ⌝ }
+// The row that a caller writes.
+fn read_row<K: Kind>(kind: &K, signature: &Signature, cells: &[Cell]) -> Result<Row, ManagerFault>
+    ensures { λ r. ⌜ Row-checked (now (signature .entry) .arities) (means (now (kind .entry))) (now (cells .entry)) r ⌝ }
 {
-    for (place, change) in changes.iter().enumerate() {
-        if change.owner == transaction && change.row == *row {
-            return Some(place);
-        }
-    }
-    None
-}
-
-// The transaction's change for the row, if it has one.
-pub(crate) fn change_for(
-    changes: &[PendingChange],
-    transaction: u32,
-    row: &Key,
-) -> Option<Option<Count>>
-    ensures { λ r. ⌜ mapped change-of r ≡ pendingOf decided transaction (key-cells (now (row .entry))) (map pending-of (now (changes .entry))) ⌝ }
-{
-    match place_of(changes, transaction, row) {
-        Some(place) => Some(changes[place].change),
-        None => None,
-    }
+    let row = Row::read(signature, kind, cells)?;
+    Ok(row)
 }
 
 impl<K: Kind> Manager<K> {

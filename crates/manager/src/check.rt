@@ -4,10 +4,10 @@ ghost use Rattle.rolls.specs.Rolls.{Has};
 ghost use Rattle.stores.specs.declared.fault.StoreFault.the-variants.{Length};
 ghost use Rattle.manager.specs.Book.{Sizes, book-of};
 ghost use Rattle.manager.specs.declared.fault.ManagerFault.the-variants.{NotOpen};
-use crate::entry::TransactionOwned;
 use crate::fault::ManagerFault;
 use crate::memory::Memory;
 use crate::state::Manager;
+use ledger::entry::TransactionOwned;
 use stores::fault::StoreFault;
 
 // Whether each roll's memory has its size.

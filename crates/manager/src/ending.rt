@@ -1,22 +1,25 @@
 // Begin, and the two ends of a transaction.
 ghost use mathlib.Core.Path.{_≡_};
 ghost use mathlib.Core.List.{[], _∷_};
+ghost use Prim.Native.Nat.{_<_};
 ghost use lib.Dec.{eqb};
 ghost use Rattle.std.specs.shelf.Lists.{countBy};
+ghost use Rattle.rolls.specs.Rolls.{Has};
 ghost use Rattle.manager.specs.Book.{Fixed, Sizes, Well, book-of};
 ghost use Rattle.manager.specs.Checks.{Answers};
-ghost use Rattle.manager.specs.Ending.{Abandoned, Begun, Committed, Entered, abandon-checks, begin-checks, commit-checks, sizes};
+ghost use Rattle.ledger.specs.Entering.{Entered};
+ghost use Rattle.manager.specs.Ending.{Abandoned, Begun, Committed, abandon-checks, begin-checks, commit-checks, ended, sizes};
 use crate::check::check_sizes;
-use crate::entering::enter_changes;
-use crate::entry::PendingChangeOwned;
-use crate::entry::ReservationOwned;
-use crate::entry::Transaction;
-use crate::entry::TransactionOwned;
 use crate::fault::ManagerFault;
 use crate::fault::ManagerFaultFromStore;
 use crate::memory::Memory;
 use crate::state::Manager;
 use kinds::kind::Kind;
+use ledger::entering::enter_changes;
+use ledger::entry::PendingChangeOwned;
+use ledger::entry::ReservationOwned;
+use ledger::entry::Transaction;
+use ledger::entry::TransactionOwned;
 use stores::fault::StoreFault;
 use stores::store::Store;
 
@@ -61,6 +64,18 @@ impl<K: Kind> Manager<K> {
         self.changes.count(memory.changes, transaction) as u32
     }
 
+    // All entries of the transaction leave.
+    fn end(&mut self, memory: &mut Memory, transaction: u32)
+        requires { ⌜ Sizes (now memory) ⌝ }
+        ensures book { λ _. ⌜ book-of (now (self .exit)) (now (memory .exit)) ≡ ended transaction (now (self .entry) .«last_commit») (book-of (now (self .entry)) (now (memory .entry))) ⌝ }
+        ensures fewer { λ _. ⌜ (Has (λ e. e .number) transaction (book-of (now (self .entry)) (now (memory .entry)) .transactions) → now (self .exit) .transactions .len < now (self .entry) .transactions .len) ⌝ }
+        ensures fixed { λ _. ⌜ Fixed (now (self .entry)) (now (self .exit)) ⌝ }
+    {
+        self.transactions.remove(memory.transactions, transaction);
+        self.reservations.remove(memory.reservations, transaction);
+        self.changes.remove(memory.changes, transaction);
+    }
+
     // All entries of the transaction leave; how many changes it had.
     pub fn abandon(&mut self, memory: &mut Memory, transaction: u32) -> Result<u32, ManagerFault>
         requires { ⌜ Well means (now self) (now memory) ⌝ }
@@ -71,9 +86,7 @@ impl<K: Kind> Manager<K> {
         check_sizes(memory)?;
         self.check_open(memory, transaction)?;
         let number = self.count_changes(memory, transaction);
-        self.transactions.remove(memory.transactions, transaction);
-        self.reservations.remove(memory.reservations, transaction);
-        self.changes.remove(memory.changes, transaction);
+        self.end(memory, transaction);
         Ok(number)
     }
 
@@ -106,9 +119,7 @@ impl<K: Kind> Manager<K> {
         check_sizes(memory)?;
         self.check_open(memory, transaction)?;
         self.enter_own(memory, store, transaction)?;
-        self.transactions.remove(memory.transactions, transaction);
-        self.reservations.remove(memory.reservations, transaction);
-        self.changes.remove(memory.changes, transaction);
+        self.end(memory, transaction);
         self.last_commit += 1;
         Ok(self.last_commit)
     }

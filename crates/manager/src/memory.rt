@@ -1,6 +1,6 @@
-use crate::entry::PendingChange;
-use crate::entry::Reservation;
-use crate::entry::Transaction;
+use ledger::entry::PendingChange;
+use ledger::entry::Reservation;
+use ledger::entry::Transaction;
 
 // The memory of the rolls, which the caller brings to every call: 16, 64 and 128 places.
 pub struct Memory<'a> {

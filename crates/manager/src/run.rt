@@ -1,6 +1,6 @@
 // Calls as they come from outside, over a new manager.
 ghost use mathlib.Core.Path.{_≡_};
-ghost use Rattle.manager.specs.Words.{language};
+ghost use Rattle.ledger.specs.Words.{language};
 ghost use Rattle.manager.specs.Book.{Fixed, Well, book-of};
 ghost use Rattle.manager.specs.Checks.{Answers};
 ghost use Rattle.manager.specs.Calls.{Made, Run-made, Steps, asked-by, new-checks, number, says};

@@ -2,7 +2,7 @@ use mathlib.Core.Path.{_≡_, refl, sym, ap, _∙_, subst}
 use Prim.Native.Nat.{_<_, min}
 use native.Mathlib.Omega.{arith}
 use lib.ListN.{length, take}
-use Rattle.manager.specs.Words.{language}
+use Rattle.ledger.specs.Words.{language}
 use Rattle.manager.specs.Calls.{Ran}
 use Rattle.manager.proofs.Going.{going-start, going-next, going-ran}
 use Rattle.manager.proofs.run.run.Needs as need

@@ -1,5 +1,5 @@
 use mathlib.Core.Path.{refl, ap}
-use Rattle.manager.specs.Words.{language}
+use Rattle.ledger.specs.Words.{language}
 use Rattle.manager.specs.Book.{book-of}
 use Rattle.manager.proofs.Moved.{refused-steps, commit-steps}
 use Rattle.manager.proofs.state.Manager.answer_commit.Needs as need

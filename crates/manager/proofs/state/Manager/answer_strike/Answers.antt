@@ -1,4 +1,4 @@
-use Rattle.manager.specs.Words.{language}
+use Rattle.ledger.specs.Words.{language}
 use Rattle.manager.specs.Book.{book-of}
 use mathlib.Core.Path.{refl}
 use Rattle.manager.proofs.Moved.{refused-steps, strike-steps}

@@ -4,7 +4,7 @@ use native.Mathlib.Omega.{arith}
 use native.Mathlib.Numerals.{add-one}
 use lib.ListN.{length, take}
 use Rattle.std.proofs.shelf.Lists.{length-take-le}
-use Rattle.manager.specs.declared.entry.Transaction.{Transaction}
+use Rattle.ledger.specs.declared.entry.Transaction.{Transaction}
 use Rattle.manager.specs.Book.{Book, book-of}
 use Rattle.manager.specs.Ending.{Begun}
 use Rattle.manager.proofs.Sounds.{pushed-there, book-same, sound-begun}

@@ -3,7 +3,7 @@ use lib.Dec.{eqb}
 use lib.ListN.{take}
 use Rattle.std.proofs.shelf.Lists.{length-take-le}
 use Rattle.std.proofs.shelf.Sums.{countBy-le-length}
-use Rattle.manager.specs.declared.entry.PendingChange.{PendingChange}
+use Rattle.ledger.specs.declared.entry.PendingChange.{PendingChange}
 use Rattle.manager.proofs.state.Manager.count_changes.Needs as need
 
 -- there are at most 128

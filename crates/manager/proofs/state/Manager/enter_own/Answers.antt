@@ -4,8 +4,8 @@ use native.Mathlib.Omega.{arith}
 use lib.ListN.{length}
 use Rattle.std.proofs.shelf.Lists.{length-take-le}
 use Rattle.serial.specs.Machine.{KeysOnce}
-use Rattle.manager.specs.Words.{pending-of}
-use Rattle.manager.specs.Ending.{Entered}
+use Rattle.ledger.specs.Words.{pending-of}
+use Rattle.ledger.specs.Entering.{Entered}
 use Rattle.manager.proofs.state.Manager.enter_own.Needs as need
 
 pub enter-changes-requires : need.enter-changes-requires

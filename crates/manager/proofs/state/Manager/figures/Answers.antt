@@ -8,8 +8,8 @@ use Rattle.terms.specs.Fitting.{Fits, described}
 use Rattle.stores.specs.Rows.{decided}
 use Rattle.serial.specs.Machine.{KeysOnce, withOwn}
 use Rattle.serial.proofs.Surveys.{survey-both}
-use Rattle.manager.specs.declared.entry.PendingChange.{PendingChange}
-use Rattle.manager.specs.Words.{pending-of}
+use Rattle.ledger.specs.declared.entry.PendingChange.{PendingChange}
+use Rattle.ledger.specs.Words.{pending-of}
 use Rattle.manager.proofs.state.Manager.figures.Needs as need
 
 pub returns : need.returns

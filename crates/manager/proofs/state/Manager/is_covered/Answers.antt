@@ -3,8 +3,8 @@ use mathlib.Core.Bool.{Bool, true, false}
 use mathlib.Core.List.{List}
 use Rattle.std.specs.Orderings.{Decides, When}
 use Rattle.terms.specs.Fitting.{cells-of}
-use Rattle.manager.specs.declared.entry.Reservation.{Reservation}
-use Rattle.manager.specs.Looking.{Covered}
+use Rattle.ledger.specs.declared.entry.Reservation.{Reservation}
+use Rattle.ledger.specs.Covering.{Covered}
 use Rattle.manager.proofs.state.Manager.is_covered.Needs as need
 
 by-when : (b : Bool) (P : Type 0) → Decides b P → When b P (P → ⊥)

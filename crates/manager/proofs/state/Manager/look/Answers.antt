@@ -6,8 +6,8 @@ use Rattle.terms.specs.Fitting.{cells-of}
 use Rattle.terms.specs.Proper.{Row-cells}
 use Rattle.manager.specs.Book.{book-of}
 use Rattle.manager.specs.Ending.{own-map}
-use Rattle.manager.specs.Looking.{Covered}
-use Rattle.manager.proofs.Rows.{storable}
+use Rattle.ledger.specs.Covering.{Covered}
+use Rattle.ledger.proofs.Rows.{storable}
 use Rattle.manager.proofs.state.Manager.look.Needs as need
 
 pub returns-in-Break-row : need.returns-in-Break-row

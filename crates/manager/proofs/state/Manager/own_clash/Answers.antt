@@ -3,9 +3,9 @@ use mathlib.Core.List.{List}
 use Rattle.std.specs.Options.{Cases}
 use Rattle.maps.specs.Maps.{In}
 use Rattle.terms.specs.Fitting.{described}
-use Rattle.manager.specs.declared.entry.Reservation.{Reservation}
-use Rattle.manager.specs.Words.{right-of}
-use Rattle.manager.specs.Clashes.{Clashing, FirstClash, request}
+use Rattle.ledger.specs.declared.entry.Reservation.{Reservation}
+use Rattle.ledger.specs.Words.{right-of}
+use Rattle.ledger.specs.Clashes.{Clashing, FirstClash, request}
 use Rattle.manager.proofs.state.Manager.own_clash.Needs as need
 
 pub returns : need.returns

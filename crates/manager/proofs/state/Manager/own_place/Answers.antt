@@ -3,8 +3,8 @@ use mathlib.Core.List.{List}
 use Rattle.std.specs.Options.{Cases}
 use Rattle.maps.specs.Maps.{In}
 use Rattle.stores.specs.Rows.{cells-of}
-use Rattle.manager.specs.declared.entry.PendingChange.{PendingChange}
-use Rattle.manager.specs.Looking.{For, FirstFor}
+use Rattle.ledger.specs.declared.entry.PendingChange.{PendingChange}
+use Rattle.ledger.specs.Covering.{For, FirstFor}
 use Rattle.manager.proofs.state.Manager.own_place.Needs as need
 
 pub returns : need.returns

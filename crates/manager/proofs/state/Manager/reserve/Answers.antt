@@ -8,8 +8,8 @@ use Rattle.std.proofs.shelf.Lists.{length-take-le}
 use Rattle.std.proofs.shelf.Results.{err-from-errBy}
 use Rattle.terms.specs.Fitting.{Description, described}
 use Rattle.terms.specs.Proper.{Proper-pattern}
-use Rattle.manager.specs.declared.entry.Reservation.{Reservation}
-use Rattle.manager.specs.Words.{right-of}
+use Rattle.ledger.specs.declared.entry.Reservation.{Reservation}
+use Rattle.ledger.specs.Words.{right-of}
 use Rattle.manager.specs.Book.{Book, book-of}
 use Rattle.manager.specs.Reserving.{Reserved, tallied}
 use Rattle.manager.proofs.Reserves.{clear, holds, conflicted}

@@ -7,10 +7,10 @@ use Rattle.std.specs.Options.{isSome}
 use Rattle.std.proofs.shelf.Lists.{length-take-le, length-set}
 use Rattle.std.proofs.shelf.Tests.{both-ways}
 use Rattle.stores.specs.Rows.{cells-of}
-use Rattle.manager.specs.declared.entry.PendingChange.{PendingChange}
+use Rattle.ledger.specs.declared.entry.PendingChange.{PendingChange}
 use Rattle.manager.specs.Book.{book-of}
-use Rattle.manager.specs.Looking.{For}
-use Rattle.manager.proofs.Changes.{set-take, pending-none, pending-at, entered-at, entered-end, rows-at, rows-end}
+use Rattle.ledger.specs.Covering.{For}
+use Rattle.ledger.proofs.Entries.{set-take, pending-none, pending-at, entered-at, entered-end, rows-at, rows-end}
 use Rattle.manager.proofs.state.Manager.set_change.Needs as need
 
 pub returns-in-Some : need.returns-in-Some

@@ -8,8 +8,9 @@ use Rattle.terms.specs.Fitting.{cells-of}
 use Rattle.terms.specs.Proper.{Row-cells}
 use Rattle.serial.specs.Rights.{Change.written}
 use Rattle.manager.specs.Book.{Fixed, book-of}
-use Rattle.manager.specs.Looking.{Covered, HasPlace, Changed}
-use Rattle.manager.proofs.Rows.{storable}
+use Rattle.ledger.specs.Covering.{Covered}
+use Rattle.manager.specs.Looking.{HasPlace, Changed}
+use Rattle.ledger.proofs.Rows.{storable}
 use Rattle.manager.proofs.Sounds.{sound-changed, fixed-sound, moved-sound}
 use Rattle.manager.proofs.state.Manager.write.Needs as need
 

@@ -1,0 +1,4 @@
+mod Passes
+pub mod Rows
+pub mod Entries
+mod Counting

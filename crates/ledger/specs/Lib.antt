@@ -1,0 +1,5 @@
+pub mod Words
+pub mod Clashes
+pub mod Covering
+pub mod Entering
+pub mod Counting
