@@ -9,6 +9,15 @@ pub struct Ticket {
     pub(crate) spent: bool,
 }
 
+impl Ticket {
+    // The number of its transaction.
+    pub fn number(&self) -> u32
+        ensures { λ r. ⌜ r ≡ now (self .entry) .number ⌝ }
+    {
+        self.number
+    }
+}
+
 impl Drop for Ticket {
     fn drop(self)
         requires { ⌜ self .spent ≡ true ⌝ }
