@@ -6,7 +6,14 @@ use crate::proper::{Cell, Constraint};
 
 pub type Pattern = (Vec<Cell>, Vec<Constraint>);
 
-const ARITIES: [u8; 4] = [0, 4, 2, 1];
+/// Symbol 1 has four arguments, symbol 2 two, symbol 3 one, and the others none.
+pub const ARITIES: [u8; 32] = {
+    let mut arities = [0; 32];
+    arities[1] = 4;
+    arities[2] = 2;
+    arities[3] = 1;
+    arities
+};
 
 fn value(d: &mut Draw) -> Cell {
     match d.below(6) {

@@ -2,19 +2,11 @@
 //! The worst pair is looked for by changing a slow pair a little again and again.
 
 use model::draw::Draw;
-use model::generate::{self, Pattern};
+use model::generate::{self, ARITIES, Pattern};
 use model::link::Encoded;
 use model::{proper, unify};
 use std::hint::black_box;
 use std::time::Instant;
-
-const ARITIES: [u8; 32] = {
-    let mut arities = [0; 32];
-    arities[1] = 4;
-    arities[2] = 2;
-    arities[3] = 1;
-    arities
-};
 
 /// The shortest of some runs, in nanoseconds.
 fn shortest(runs: u32, mut work: impl FnMut()) -> u128 {

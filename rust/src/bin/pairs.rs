@@ -1,19 +1,11 @@
 //! Compares the proved comparison with the unifier on trees: `pairs [COUNT [SEED]]`. It ends with status 1 at the first difference.
 
 use model::draw::Draw;
-use model::generate::{self, Pattern};
+use model::generate::{self, ARITIES, Pattern};
 use model::link::{self, Answer};
 use model::proper::{self, Cell};
 use model::unify;
 use std::process::ExitCode;
-
-const ARITIES: [u8; 32] = {
-    let mut arities = [0; 32];
-    arities[1] = 4;
-    arities[2] = 2;
-    arities[3] = 1;
-    arities
-};
 
 /// What the rules say of a pair.
 fn expected(left: &Pattern, right: &Pattern) -> Answer {
