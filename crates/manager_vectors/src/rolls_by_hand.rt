@@ -123,3 +123,71 @@ fn a_commit_that_just_fits(rt: LibcRuntime) -> Result<(), Fail> {
     check_eq(told.get(8).copied(), Some(0))?;
     check_eq(told.get(9).copied(), Some(13))
 }
+
+// So many reservations for reading, by one transaction.
+fn reserves<'a>(heap: Global, rows: Rows<'a>, count: u32) -> Result<Vec<Call<'a>>, AllocError> {
+    let mut calls = begins(heap, 1, 1)?;
+    for _ in 0..count {
+        calls.push(Call::Reserve {
+            transaction: 1,
+            right: b'R',
+            cells: rows.any,
+            constraints: rows.free,
+        })?;
+    }
+    Ok(calls)
+}
+
+// What transaction 1 may and transaction 2 may not, where transaction 1 has reserved all for reading.
+fn covered<'a>(heap: Global, rows: Rows<'a>) -> Result<Vec<Call<'a>>, AllocError> {
+    let mut calls = reserves(heap, rows, 1)?;
+    calls.push(Call::Begin { planner: 2 })?;
+    calls.push(Call::Look {
+        transaction: 1,
+        cells: rows.one,
+    })?;
+    calls.push(Call::Look {
+        transaction: 2,
+        cells: rows.one,
+    })?;
+    calls.push(Call::Survey {
+        transaction: 1,
+        reservation: 1,
+    })?;
+    calls.push(Call::Survey {
+        transaction: 2,
+        reservation: 1,
+    })?;
+    calls.push(write(rows.one, 1))?;
+    calls.push(Call::Strike {
+        transaction: 1,
+        cells: rows.one,
+    })?;
+    Ok(calls)
+}
+
+#[test]
+fn reservations_cover(rt: LibcRuntime) -> Result<(), Fail> {
+    let any = [cell(b'S', 3), cell(b'V', 0)];
+    let one = [cell(b'S', 3), cell(b'N', 1)];
+    let free: [Constraint; 0] = [];
+    let rows = Rows {
+        any: &any,
+        one: &one,
+        two: &one,
+        three: &one,
+        free: &free,
+    };
+    let calls = covered(rt.alloc(), rows)?;
+    let told = play(&rt, arities(), 128, calls.as_slice())?;
+    check_eq(told.get(3).copied(), Some(0))?;
+    check_eq(told.get(4).copied(), Some(25))?;
+    check_eq(told.get(5).copied(), Some(0))?;
+    check_eq(told.get(6).copied(), Some(26))?;
+    check_eq(told.get(7).copied(), Some(28))?;
+    check_eq(told.get(8).copied(), Some(28))?;
+    let calls = reserves(rt.alloc(), rows, 65)?;
+    let told = play(&rt, arities(), 128, calls.as_slice())?;
+    check_eq(told.get(64).copied(), Some(0))?;
+    check_eq(told.get(65).copied(), Some(24))
+}
