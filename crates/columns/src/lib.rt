@@ -1,4 +1,6 @@
 // Numbers and cells in fixed columns, read and written.
+#![tactic(auto)]
+
 ghost use Rattle.columns.specs.Laws.{OneMeaning};
 
 pub mod blank;

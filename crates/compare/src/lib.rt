@@ -1,4 +1,6 @@
 // Whether two patterns overlap: their most general unifier, and a sample of the rows that fit both.
+#![tactic(auto)]
+
 pub mod binding;
 mod classes;
 mod join;

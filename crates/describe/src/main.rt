@@ -1,5 +1,7 @@
 // Checks descriptions of rows before anyone reserves by them. A line of the standard input has one description: what each constraint
 // lets through, or the refusal with its number and place; or two, with a bar between them: whether some row fits both, and which.
+#![tactic(auto)]
+
 mod notation;
 mod overlaps;
 mod words;

@@ -1,4 +1,6 @@
 // A store in an image of lines.
+#![tactic(auto)]
+
 mod cells;
 mod change;
 mod decode;

@@ -1,4 +1,6 @@
 // Kinds of values: numbers, hours of the week, vehicle classes, and banks of several kinds.
+#![tactic(auto)]
+
 pub mod bank;
 pub mod check;
 pub mod class;

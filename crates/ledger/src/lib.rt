@@ -1,4 +1,6 @@
 // What the entries of the manager's rolls mean, and what is worked out from them.
+#![tactic(auto)]
+
 pub mod changes;
 pub mod clash;
 pub mod entering;

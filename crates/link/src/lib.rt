@@ -1,4 +1,6 @@
 // The library for callers in C and Rust: numbers and byte slices only. Anything may be passed; what is no pattern is refused.
+#![tactic(auto)]
+
 ghost use Rattle.link.specs.Searches.{Found};
 
 mod decode;

@@ -1,4 +1,6 @@
 // The manager of transactions, reservations and changes.
+#![tactic(auto)]
+
 pub mod call;
 pub mod changing;
 mod check;

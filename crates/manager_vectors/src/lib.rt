@@ -1,4 +1,6 @@
 // Hand-worked vectors for the manager: every refusal that a list of calls can reach, full rolls, and a commit that just fits.
+#![tactic(auto)]
+
 #[cfg(test)]
 mod desk;
 #[cfg(test)]

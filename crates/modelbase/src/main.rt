@@ -1,4 +1,6 @@
 // Daily work on a saved file of the model base.
+#![tactic(auto)]
+
 mod blank;
 mod checking;
 mod command;

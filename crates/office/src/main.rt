@@ -1,5 +1,7 @@
 // A city office loads two consultants' counts by hour, class and turn into a table in memory: one counted a junction on weekday mornings, the other
 // heavy vehicles at two junctions.
+#![tactic(auto)]
+
 mod story;
 
 use anyhow::anyhow;

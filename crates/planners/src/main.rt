@@ -1,5 +1,7 @@
 // Two planners load a survey each into one model base: a conflict with the row that shows it, a correction, commits, figures and
 // an abandon, step by step. The calls go through `run`, over a table of eight places.
+#![tactic(auto)]
+
 mod words;
 
 use anyhow::anyhow;

@@ -1,4 +1,6 @@
 // What every refusal carries, whatever layer it comes from.
+#![tactic(auto)]
+
 ghost use Rattle.std.specs.Prelude.{◌≡◌};
 ghost use Rattle.refusals.specs.declared.Refusal.{Refusal};
 

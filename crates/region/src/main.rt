@@ -1,5 +1,7 @@
 // A region keeps its counts in a saved file. Two planners load what two consultants sent into the file's image: one moves counts that were noted at a wrong
 // hour, the other enters U-turns all over the region. At the end come the lines that changed.
+#![tactic(auto)]
+
 mod story;
 
 use image::open::open;

@@ -1,4 +1,6 @@
 // Requests and answers by hand.
+#![tactic(auto)]
+
 #[cfg(test)]
 mod answers_by_hand;
 #[cfg(test)]

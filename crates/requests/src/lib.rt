@@ -1,4 +1,6 @@
 // A request as a line of columns, read and written, and the line of an answer.
+#![tactic(auto)]
+
 ghost use Rattle.requests.specs.Laws.{OneRequest};
 
 pub mod answer;

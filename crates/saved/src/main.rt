@@ -1,5 +1,7 @@
 // Corrections in a saved file: opens its image, enters a new count, replaces one and drops one, and shows the image before and after.
 // A damaged image is refused with its line and field.
+#![tactic(auto)]
+
 use image::fault::OpeningFault;
 use image::open::open;
 use kinds::bank::ALL_KINDS;

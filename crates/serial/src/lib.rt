@@ -1,4 +1,6 @@
 // The serial order of transactions: theory only. The functions ask for the theorems.
+#![tactic(auto)]
+
 ghost use Rattle.serial.specs.Language.{Language};
 ghost use Rattle.serial.specs.Alone.{SurveysPinned};
 ghost use Rattle.serial.specs.Legal.{Serializable};

@@ -1,4 +1,6 @@
 // Answers the sheet of requests on the standard input, over 64 empty places of a table.
+#![tactic(auto)]
+
 use anyhow::anyhow;
 use kinds::bank::ALL_KINDS;
 use manager::memory::Memory;

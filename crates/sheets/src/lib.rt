@@ -1,4 +1,6 @@
 // A whole sheet of requests, answered.
+#![tactic(auto)]
+
 pub mod answering;
 pub mod calls;
 pub mod fault;

@@ -1,5 +1,7 @@
 // A design studio loads one junction's turning counts for the evening peak. Two consultants counted two arms each, and two planners load
 // what they sent into a table in memory; all values are whole numbers.
+#![tactic(auto)]
+
 mod story;
 
 use anyhow::anyhow;

@@ -1,4 +1,6 @@
 // What a planner reads: calls, answers and rows of the model base in sentences.
+#![tactic(auto)]
+
 pub mod condition;
 pub mod follow;
 pub mod mask;

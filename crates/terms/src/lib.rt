@@ -1,4 +1,6 @@
 // Cells, signatures, rows and patterns, and what it means that a row fits a pattern.
+#![tactic(auto)]
+
 pub mod cell;
 pub mod constraint;
 pub mod fault;

@@ -1,6 +1,8 @@
 // Two planners load a survey each into one model base, each with a ticket for the transaction that was begun: a conflict with
 // the row that shows it, a correction, a commit that is refused for want of room and handed its ticket back, a survey's
 // figures and an abandon, step by step.
+#![tactic(auto)]
+
 mod day;
 mod desk;
 mod log;

@@ -1,5 +1,7 @@
 // Hand-worked vectors for kinds, rows, patterns and comparisons. They stand apart from the crates that they test, since a crate with
 // tests is proved twice.
+#![tactic(auto)]
+
 #[cfg(test)]
 mod compare_by_hand;
 #[cfg(test)]
