@@ -17,7 +17,7 @@ pub returns-then-n-gt4294967295 : goal.returns-then-n-gt4294967295
 returns-then-n-gt4294967295 c =
     let s = c.args.part.now in
     let i = c.loop-b.b-index in
-    let m = next s i c.loop-b.n c.worth-of.result c.loop-b-test.true c.loop-b.invariant.0 c.worth-of.ensures in
+    let m = next s i c.loop-b.n c.worth_of.result c.loop-b-test.true c.loop-b.invariant.0 c.worth_of.ensures in
     let f = front_number (map worth s) (i + 1) in
     omega arith
 
@@ -25,7 +25,7 @@ pub loop-b-preserved : goal.loop-b-preserved
 loop-b-preserved c =
     let s = c.args.part.now in
     let i = c.loop-b.b-index in
-    let m = next s i c.loop-b.n c.worth-of.result c.loop-b-test.true c.loop-b.invariant.0 c.worth-of.ensures in
+    let m = next s i c.loop-b.n c.worth_of.result c.loop-b-test.true c.loop-b.invariant.0 c.worth_of.ensures in
     (omega arith, omega arith)
 
 pub returns : goal.returns

@@ -10,12 +10,12 @@ use Rattle.columns.proofs.number.read_number.Goals as goal
 back : (part : List ℕ) (n : ℕ) → n < 2 ^ 32 → part ≡ columns (length part) n → n ≡ number_from_digits 10 (map worth part)
 back part n h s = sym (ap (λ t. number_from_digits 10 (map worth t)) s ∙ reads_back (length part) n (omega arith))
 
-pub returns-in-err-n : goal.returns-in-err-n
-returns-in-err-n c =
+pub returns-in_err-n : goal.returns-in_err-n
+returns-in_err-n c =
     rw c.from-residual.ensures
-    (λ n h s. let e = back c.args.part.now n h s in let l = c.in-err-n.ensures in omega arith)
+    (λ n h s. let e = back c.args.part.now n h s in let l = c.in_err-n.ensures in omega arith)
 
 pub returns-else-shows : goal.returns-else-shows
 returns-else-shows c n h s =
-    let same : n ≡ c.in-ok-n.n = back c.args.part.now n h s ∙ sym c.in-ok-n.ensures in
+    let same : n ≡ c.in_ok-n.n = back c.args.part.now n h s ∙ sym c.in_ok-n.ensures in
     both_ways c.shows.result c.if-shows.false (c.shows.ensures.1 (s ∙ ap (columns (length c.args.part.now)) same))

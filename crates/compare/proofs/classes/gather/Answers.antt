@@ -5,7 +5,7 @@ use Rattle.terms.specs.declared.constraint.Constraint.{Constraint}
 use Rattle.compare.specs.Roots.{class_conditions, constraint_at, stands_for}
 use Rattle.compare.proofs.Gathers.{gathered, passed_over}
 use Rattle.compare.proofs.classes.gather.Goals as goal
-use Rattle.compare.proofs.classes.gather.Goals.{in-Variable+then-z-y, in-Variable+else-z-y, in-default}
+use Rattle.compare.proofs.classes.gather.Goals.{in-Variable+then-z-y, in-Variable+else-z-y, in_default}
 
 pub loop-constraint-preserved : goal.loop-constraint-preserved
 loop-constraint-preserved c =
@@ -30,11 +30,11 @@ loop-constraint-preserved c =
         ap (λ (m : ℕ). take m c.match-roots-constraint.conditions) w.count-is ∙ ap (take n) w.conditions-is ∙ inv.2
             ∙ sym (passed_over rs ks y i here (ap (stands_for y) w.in-Variable.is ∙ ne_eqb w.in-Variable.z y w.if-z-y.false)),
       )
-      | in-default w ↦ (
+      | in_default w ↦ (
         ap length w.conditions-is ∙ inv.0,
         omega (arith, w.count-is, inv.1),
         ap (λ (m : ℕ). take m c.match-roots-constraint.conditions) w.count-is ∙ ap (take n) w.conditions-is ∙ inv.2
-            ∙ sym (passed_over rs ks y i here (ap (stands_for y) w.in-default.is)),
+            ∙ sym (passed_over rs ks y i here (ap (stands_for y) w.in_default.is)),
       )
     ]
 

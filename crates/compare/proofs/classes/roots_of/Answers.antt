@@ -11,9 +11,9 @@ loop-x-preserved c =
     let sheet = c.args.sheet.now in
     let rs = c.loop-x.roots in
     let x = c.loop-x.x in
-    let r = c.root-of.result in (
+    let r = c.root_of.result in (
       length-set rs x r ∙ c.loop-x.invariant.0,
       below_more (λ (y : ℕ). RootOf sig cells sheet y (root_at (set rs x r) y)) x
           (λ y h. subst (RootOf sig cells sheet y) (sym (get_or-set_other rs x y r (Variable 0) (omega arith))) (c.loop-x.invariant.1 y h))
-          (subst (RootOf sig cells sheet x) (sym (get_or-set_same rs x r (Variable 0) (omega arith))) c.root-of.ensures),
+          (subst (RootOf sig cells sheet x) (sym (get_or-set_same rs x r (Variable 0) (omega arith))) c.root_of.ensures),
     )

@@ -8,9 +8,9 @@ pub loop-x-preserved : goal.loop-x-preserved
 loop-x-preserved c =
     let w = c.loop-x.wait in
     let x = c.loop-x.x in
-    let r = c.is-some.result in (
+    let r = c.is_some.result in (
       length-set w x r ∙ c.loop-x.invariant.0,
       below_more (λ (y : ℕ). get_or (set w x r) y false ≡ ltb (entry c.args.sheet.now y) (length c.args.cells.now)) x
           (λ y h. get_or-set_other w x y r false (omega arith) ∙ c.loop-x.invariant.1 y h)
-          (get_or-set_same w x r false (omega arith) ∙ c.is-some.ensures ∙ bound_tells c.bound.result (entry c.args.sheet.now x) (length c.args.cells.now) c.bound.ensures),
+          (get_or-set_same w x r false (omega arith) ∙ c.is_some.ensures ∙ bound_tells c.bound.result (entry c.args.sheet.now x) (length c.args.cells.now) c.bound.ensures),
     )

@@ -5,11 +5,11 @@ use Rattle.unification.proofs.Lines.{Placed}
 use Rattle.compare.specs.Bindings.{WithinPatterns, replacements}
 use Rattle.compare.proofs.order.order.Given as goal
 
-abbrev pub invariant-loop-to-place : goal.invariant-loop-to-place
-invariant-loop-to-place l =
-    (length l.wait ≡ 16) × (length l.out ≡ 16) × (l.to-place ≡ opens l.wait) × (l.to-place ≤ 16)
-    × Placed l.signature.arities l.cells l.sheet l.wait (replacements l.signature.arities l.cells l.left (drop l.to-place l.out))
+abbrev pub invariant-loop-to_place : goal.invariant-loop-to_place
+invariant-loop-to_place l =
+    (length l.wait ≡ 16) × (length l.out ≡ 16) × (l.to_place ≡ opens l.wait) × (l.to_place ≤ 16)
+    × Placed l.signature.arities l.cells l.sheet l.wait (replacements l.signature.arities l.cells l.left (drop l.to_place l.out))
     × All (WithinPatterns l.left (length l.cells - l.left)) l.out
 
-abbrev pub decreases-loop-to-place : goal.decreases-loop-to-place
-decreases-loop-to-place l = l.to-place
+abbrev pub decreases-loop-to_place : goal.decreases-loop-to_place
+decreases-loop-to_place l = l.to_place

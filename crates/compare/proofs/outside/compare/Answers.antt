@@ -18,13 +18,13 @@ written sig ns M l left r right a e f g n p q h =
 
 pub returns : goal.returns
 returns g c =
-    let s = c.in-ok-signature.ensures in
-    let l = c.in-ok-first.ensures in
-    let r = c.in-ok-second.ensures in
+    let s = c.in_ok-signature.ensures in
+    let l = c.in_ok-first.ensures in
+    let r = c.in_ok-second.ensures in
     record {
-      answer = written c.in-ok-signature.signature.arities c.args.arities.now (g.K.Kind.means c.args.kind.now)
-          (described c.in-ok-first.first) (record { cells = c.args.left.cells.now; constraints = c.args.left.constraints.now })
-          (described c.in-ok-second.second) (record { cells = c.args.right.cells.now; constraints = c.args.right.constraints.now })
+      answer = written c.in_ok-signature.signature.arities c.args.arities.now (g.K.Kind.means c.args.kind.now)
+          (described c.in_ok-first.first) (record { cells = c.args.left.cells.now; constraints = c.args.left.constraints.now })
+          (described c.in_ok-second.second) (record { cells = c.args.right.cells.now; constraints = c.args.right.constraints.now })
           c.in-Some.common s.0 l.0 r.0 s.1 l.1 r.1 c.in-Some.ensures.answer;
       blank = search rules;
     }

@@ -8,16 +8,16 @@ use Rattle.image.specs.Meaning.{entries}
 use Rattle.image.proofs.Changing.{counted, counted_none, counted_some, tail_part}
 use Rattle.image.proofs.change.find_in.Goals as goal
 
-pub returns-in-err-k : goal.returns-in-err-k
-returns-in-err-k c =
-    rw c.from-residual.ensures (sym (none_find (entries c.args.image.now) (cells_of c.args.key.now) c.in-err-k.ensures))
+pub returns-in_err-k : goal.returns-in_err-k
+returns-in_err-k c =
+    rw c.from-residual.ensures (sym (none_find (entries c.args.image.now) (cells_of c.args.key.now) c.in_err-k.ensures))
 
-pub returns-in-err-value : goal.returns-in-err-value
-returns-in-err-value c =
+pub returns-in_err-value : goal.returns-in_err-value
+returns-in_err-value c =
     let xs = c.args.image.now in
     let q = cells_of c.args.key.now in
-    let k = c.in-ok-k.k in
-    absurd (counted_none xs q _ (counted xs c.requires q k c.in-ok-k.ensures _ (tail_part k _ xs (omega arith))) c.in-err-value.ensures)
+    let k = c.in_ok-k.k in
+    absurd (counted_none xs q _ (counted xs c.requires q k c.in_ok-k.ensures _ (tail_part k _ xs (omega arith))) c.in_err-value.ensures)
 
 -- a count that is not too large
 made : (o : Option Count) (v : ℕ) → v ≤ 999999 → MatchOption o (999999 < v) (λ n. n.value ≡ v) → option_map count_of o ≡ Some v
@@ -28,7 +28,7 @@ pub returns : goal.returns
 returns c =
     let xs = c.args.image.now in
     let q = cells_of c.args.key.now in
-    let k = c.in-ok-k.k in
-    let v = c.in-ok-value.value in
-    let f = counted_some xs q _ v (omega arith) (counted xs c.requires q k c.in-ok-k.ensures _ (tail_part k _ xs (omega arith))) c.in-ok-value.ensures in
+    let k = c.in_ok-k.k in
+    let v = c.in_ok-value.value in
+    let f = counted_some xs q _ v (omega arith) (counted xs c.requires q k c.in_ok-k.ensures _ (tail_part k _ xs (omega arith))) c.in_ok-value.ensures in
     made c.new.result v f.0 c.new.ensures ∙ sym f.1

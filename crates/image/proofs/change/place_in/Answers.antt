@@ -7,4 +7,4 @@ pub returns : goal.returns
 returns c =
     let q = cells_of c.args.key.now in
     let fit = storable_key c.args.key.now in
-    placed c.args.image.now c.requires q fit _ (row_front q _ fit c.encode.ensures) c.place-of.result c.place-of.ensures
+    placed c.args.image.now c.requires q fit _ (row_front q _ fit c.encode.ensures) c.place_of.result c.place_of.ensures

@@ -15,18 +15,18 @@ returns-in-Some c =
     put_at xs _ c.requires q k fit n c.args.count.few
     (line_written k ((k * 128 + 128) - k * 128) xs c.encode.new.line (Some (q, n)) (omega arith) at.within (fit, c.args.count.few) c.encode.ensures) at
 
-pub returns-in-Some-first-blank : goal.returns-in-Some-first-blank
-returns-in-Some-first-blank c =
+pub returns-in-Some-first_blank : goal.returns-in-Some-first_blank
+returns-in-Some-first_blank c =
     let xs = c.args.image.now in
-    let k = c.in-Some-first-blank.k in
+    let k = c.in-Some-first_blank.k in
     let q = cells_of c.args.key.now in
     let n = c.args.count.value in
     let fit = storable_key c.args.key.now in
-    let first = c.in-Some-first-blank.ensures in
+    let first = c.in-Some-first_blank.ensures in
     put_new xs _ c.requires q k fit n c.args.count.few
-    (line_written k ((k * 128 + 128) - k * 128) xs c.encode-in-Some-first-blank.new.line (Some (q, n)) (omega arith) first.within (fit, c.args.count.few) c.encode-in-Some-first-blank.ensures)
+    (line_written k ((k * 128 + 128) - k * 128) xs c.encode-in-Some-first_blank.new.line (Some (q, n)) (omega arith) first.within (fit, c.args.count.few) c.encode-in-Some-first_blank.ensures)
     c.in-None.ensures first
 
-pub returns-in-None-first-blank : goal.returns-in-None-first-blank
-returns-in-None-first-blank c =
-    full c.args.image.now c.requires (cells_of c.args.key.now) c.args.count.value c.in-None.ensures c.in-None-first-blank.ensures
+pub returns-in-None-first_blank : goal.returns-in-None-first_blank
+returns-in-None-first_blank c =
+    full c.args.image.now c.requires (cells_of c.args.key.now) c.args.count.value c.in-None.ensures c.in-None-first_blank.ensures

@@ -9,7 +9,7 @@ returns-in-Some c =
     let k = c.in-Some.k in
     let at = c.in-Some.ensures in
     drop_at_row xs _ c.requires (cells_of c.args.key.now) k
-    (line_written k ((k * 128 + 128) - k * 128) xs c.write-blank-line.new.line None (omega arith) at.within tt c.write-blank-line.ensures) at
+    (line_written k ((k * 128 + 128) - k * 128) xs c.write_blank_line.new.line None (omega arith) at.within tt c.write_blank_line.ensures) at
 
 pub returns-in-None : goal.returns-in-None
 returns-in-None c = kept c.args.image.now c.requires (cells_of c.args.key.now) c.in-None.ensures

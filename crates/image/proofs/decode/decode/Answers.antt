@@ -17,41 +17,41 @@ module _ (line : List ℕ) (long : length line ≡ 128) where
   blank-tail : take 7 (drop 120 line) ≡ blank 7 → take 7 (drop 120 line) ≡ blank (length (take 7 (drop 120 line)))
   blank-tail e = e ∙ ap blank (sym (tail_seven line long))
 
-pub returns-in-Some-first-marked : goal.returns-in-Some-first-marked
-returns-in-Some-first-marked g c =
+pub returns-in-Some-first_marked : goal.returns-in-Some-first_marked
+returns-in-Some-first_marked g c =
     let M = g.K.Kind.means c.args.kind.now in
     let sig = c.args.signature.now.arities in
     let line = c.args.line.now in
-    mark_first (RowCells sig M) (row_storable M (g.met.K.Kind.sound c.args.kind.now) sig) line c.requires c.as-slice-cells.result.now
-    (subst (Scanned line) (sym c.as-slice-cells.ensures) c.read-cells-found.ensures) c.in-default.ensures c.in-Some-first-marked.place c.in-Some-first-marked.ensures
+    mark_first (RowCells sig M) (row_storable M (g.met.K.Kind.sound c.args.kind.now) sig) line c.requires c.as_slice-cells.result.now
+    (subst (Scanned line) (sym c.as_slice-cells.ensures) c.read_cells-found.ensures) c.in_default.ensures c.in-Some-first_marked.place c.in-Some-first_marked.ensures
 
-pub returns-then-not-is-blank : goal.returns-then-not-is-blank
-returns-then-not-is-blank g c =
+pub returns-then-not-is_blank : goal.returns-then-not-is_blank
+returns-then-not-is_blank g c =
     let M = g.K.Kind.means c.args.kind.now in
     let sig = c.args.signature.now.arities in
     let line = c.args.line.now in
-    tail_first (RowCells sig M) (row_storable M (g.met.K.Kind.sound c.args.kind.now) sig) line c.requires c.as-slice-cells.result.now
-    (subst (Scanned line) (sym c.as-slice-cells.ensures) c.read-cells-found.ensures) c.in-default.ensures c.in-default-first-marked.ensures
-    (λ e. both_ways c.is-blank.result c.if-not-is-blank.true (c.is-blank.ensures.1 (blank-tail line c.requires e)))
+    tail_first (RowCells sig M) (row_storable M (g.met.K.Kind.sound c.args.kind.now) sig) line c.requires c.as_slice-cells.result.now
+    (subst (Scanned line) (sym c.as_slice-cells.ensures) c.read_cells-found.ensures) c.in_default.ensures c.in_default-first_marked.ensures
+    (λ e. both_ways c.is_blank.result c.if-not-is_blank.true (c.is_blank.ensures.1 (blank-tail line c.requires e)))
 
 pub returns-then-line-ne10 : goal.returns-then-line-ne10
 returns-then-line-ne10 g c =
     let M = g.K.Kind.means c.args.kind.now in
     let sig = c.args.signature.now.arities in
     let line = c.args.line.now in
-    end_first (RowCells sig M) (row_storable M (g.met.K.Kind.sound c.args.kind.now) sig) line c.requires c.as-slice-cells.result.now
-    (subst (Scanned line) (sym c.as-slice-cells.ensures) c.read-cells-found.ensures) c.in-default.ensures c.in-default-first-marked.ensures
-    (tail-blank line c.requires (c.is-blank.ensures.0 c.if-not-is-blank.false)) c.if-line-ne10.true
+    end_first (RowCells sig M) (row_storable M (g.met.K.Kind.sound c.args.kind.now) sig) line c.requires c.as_slice-cells.result.now
+    (subst (Scanned line) (sym c.as_slice-cells.ensures) c.read_cells-found.ensures) c.in_default.ensures c.in_default-first_marked.ensures
+    (tail-blank line c.requires (c.is_blank.ensures.0 c.if-not-is_blank.false)) c.if-line-ne10.true
 
-pub returns-in-default : goal.returns-in-default
-returns-in-default g c =
+pub returns-in_default : goal.returns-in_default
+returns-in_default g c =
     let M = g.K.Kind.means c.args.kind.now in
     let sig = c.args.signature.now.arities in
     let line = c.args.line.now in (
       tt,
-      good_first (RowCells sig M) (row_storable M (g.met.K.Kind.sound c.args.kind.now) sig) line c.requires c.as-slice-cells.result.now
-          (subst (Scanned line) (sym c.as-slice-cells.ensures) c.read-cells-found.ensures) c.in-default.ensures c.in-default-first-marked.ensures
-          (tail-blank line c.requires (c.is-blank.ensures.0 c.if-not-is-blank.false)) c.if-line-ne10.false,
+      good_first (RowCells sig M) (row_storable M (g.met.K.Kind.sound c.args.kind.now) sig) line c.requires c.as_slice-cells.result.now
+          (subst (Scanned line) (sym c.as_slice-cells.ensures) c.read_cells-found.ensures) c.in_default.ensures c.in_default-first_marked.ensures
+          (tail-blank line c.requires (c.is_blank.ensures.0 c.if-not-is_blank.false)) c.if-line-ne10.false,
     )
 
 pub returns-in-Err : goal.returns-in-Err
@@ -59,36 +59,36 @@ returns-in-Err g c =
     let M = g.K.Kind.means c.args.kind.now in
     let sig = c.args.signature.now.arities in
     let line = c.args.line.now in
-    cell_refused (RowCells sig M) (row_storable M (g.met.K.Kind.sound c.args.kind.now) sig) line c.requires c.as-slice-cells.result.now
-    (subst (Scanned line) (sym c.as-slice-cells.ensures) c.read-cells-found.ensures) M c.in-Err.fault c.fault-place.result
-    (key_some c.in-Some.key c.as-slice-cells.result.now c.in-Some.ensures) c.in-Err.ensures c.fault-place.ensures
+    cell_refused (RowCells sig M) (row_storable M (g.met.K.Kind.sound c.args.kind.now) sig) line c.requires c.as_slice-cells.result.now
+    (subst (Scanned line) (sym c.as_slice-cells.ensures) c.read_cells-found.ensures) M c.in-Err.fault c.fault_place.result
+    (key_some c.in-Some.key c.as_slice-cells.result.now c.in-Some.ensures) c.in-Err.ensures c.fault_place.ensures
 
-pub returns-in-Some-first-marked-2 : goal.returns-in-Some-first-marked-2
-returns-in-Some-first-marked-2 g c =
+pub returns-in-Some-first_marked-2 : goal.returns-in-Some-first_marked-2
+returns-in-Some-first_marked-2 g c =
     let M = g.K.Kind.means c.args.kind.now in
     let sig = c.args.signature.now.arities in
     let line = c.args.line.now in
-    mark_row (RowCells sig M) (row_storable M (g.met.K.Kind.sound c.args.kind.now) sig) line c.requires c.as-slice-cells.result.now
-    (subst (Scanned line) (sym c.as-slice-cells.ensures) c.read-cells-found.ensures) c.in-default-check-cells.ensures c.in-Some-first-marked-2.place c.in-Some-first-marked-2.ensures
+    mark_row (RowCells sig M) (row_storable M (g.met.K.Kind.sound c.args.kind.now) sig) line c.requires c.as_slice-cells.result.now
+    (subst (Scanned line) (sym c.as_slice-cells.ensures) c.read_cells-found.ensures) c.in_default-check_cells.ensures c.in-Some-first_marked-2.place c.in-Some-first_marked-2.ensures
 
-pub returns-in-default-read-number : goal.returns-in-default-read-number
-returns-in-default-read-number g c =
+pub returns-in_default-read_number : goal.returns-in_default-read_number
+returns-in_default-read_number g c =
     let M = g.K.Kind.means c.args.kind.now in
     let sig = c.args.signature.now.arities in
     let line = c.args.line.now in
     let l = tail_seven line c.requires in
-    tail_none (RowCells sig M) (row_storable M (g.met.K.Kind.sound c.args.kind.now) sig) line c.requires c.as-slice-cells.result.now
-    (subst (Scanned line) (sym c.as-slice-cells.ensures) c.read-cells-found.ensures) c.in-default-check-cells.ensures c.in-default-first-marked-2.ensures
-    (λ n h e. c.in-default-read-number.ensures n (omega arith) (e ∙ ap (λ m. columns m n) (sym l)))
+    tail_none (RowCells sig M) (row_storable M (g.met.K.Kind.sound c.args.kind.now) sig) line c.requires c.as_slice-cells.result.now
+    (subst (Scanned line) (sym c.as_slice-cells.ensures) c.read_cells-found.ensures) c.in_default-check_cells.ensures c.in_default-first_marked-2.ensures
+    (λ n h e. c.in_default-read_number.ensures n (omega arith) (e ∙ ap (λ m. columns m n) (sym l)))
 
-pub returns-in-default-new : goal.returns-in-default-new
-returns-in-default-new g c =
+pub returns-in_default-new : goal.returns-in_default-new
+returns-in_default-new g c =
     let M = g.K.Kind.means c.args.kind.now in
     let sig = c.args.signature.now.arities in
     let line = c.args.line.now in
-    tail_large (RowCells sig M) (row_storable M (g.met.K.Kind.sound c.args.kind.now) sig) line c.requires c.as-slice-cells.result.now
-    (subst (Scanned line) (sym c.as-slice-cells.ensures) c.read-cells-found.ensures) c.in-default-check-cells.ensures c.in-default-first-marked-2.ensures
-    c.in-Some-read-number.value c.in-Some-read-number.ensures (omega arith) c.in-default-new.ensures
+    tail_large (RowCells sig M) (row_storable M (g.met.K.Kind.sound c.args.kind.now) sig) line c.requires c.as_slice-cells.result.now
+    (subst (Scanned line) (sym c.as_slice-cells.ensures) c.read_cells-found.ensures) c.in_default-check_cells.ensures c.in_default-first_marked-2.ensures
+    c.in-Some-read_number.value c.in-Some-read_number.ensures (omega arith) c.in_default-new.ensures
 
 pub returns-then-line-ne10-2 : goal.returns-then-line-ne10-2
 returns-then-line-ne10-2 g c =
@@ -97,9 +97,9 @@ returns-then-line-ne10-2 g c =
     let line = c.args.line.now in
     let n = c.in-Some-new.ensures in
     let f = c.in-Some-new.count.few in
-    end_row (RowCells sig M) (row_storable M (g.met.K.Kind.sound c.args.kind.now) sig) line c.requires c.as-slice-cells.result.now
-    (subst (Scanned line) (sym c.as-slice-cells.ensures) c.read-cells-found.ensures) c.in-default-check-cells.ensures c.in-default-first-marked-2.ensures
-    c.in-Some-read-number.value c.in-Some-read-number.ensures (omega arith) (omega arith) c.if-line-ne10-2.true
+    end_row (RowCells sig M) (row_storable M (g.met.K.Kind.sound c.args.kind.now) sig) line c.requires c.as_slice-cells.result.now
+    (subst (Scanned line) (sym c.as_slice-cells.ensures) c.read_cells-found.ensures) c.in_default-check_cells.ensures c.in_default-first_marked-2.ensures
+    c.in-Some-read_number.value c.in-Some-read_number.ensures (omega arith) (omega arith) c.if-line-ne10-2.true
 
 -- the same, of the key and the count that are answered
 answered : (Row : List Cell → Type 0) (line : List ℕ) (cs ds : List Cell) (m n : ℕ) → ds ≡ cs → m ≡ n → m ≤ 999999 → Row cs → line ≡ shown cs n → (Row ds × (m ≤ 999999)) × (line ≡ shown ds m)
@@ -112,7 +112,7 @@ returns g c =
     let line = c.args.line.now in
     let n = c.in-Some-new.ensures in
     let f = c.in-Some-new.count.few in
-    answered (RowCells sig M) line c.as-slice-cells.result.now (cells_of c.in-Some.key) c.in-Some-new.count.value c.in-Some-read-number.value c.in-Some.ensures n f c.in-default-check-cells.ensures
-    (good_row (RowCells sig M) (row_storable M (g.met.K.Kind.sound c.args.kind.now) sig) line c.requires c.as-slice-cells.result.now
-    (subst (Scanned line) (sym c.as-slice-cells.ensures) c.read-cells-found.ensures) c.in-default-check-cells.ensures c.in-default-first-marked-2.ensures
-    c.in-Some-read-number.value c.in-Some-read-number.ensures (omega arith) (omega arith) c.if-line-ne10-2.false)
+    answered (RowCells sig M) line c.as_slice-cells.result.now (cells_of c.in-Some.key) c.in-Some-new.count.value c.in-Some-read_number.value c.in-Some.ensures n f c.in_default-check_cells.ensures
+    (good_row (RowCells sig M) (row_storable M (g.met.K.Kind.sound c.args.kind.now) sig) line c.requires c.as_slice-cells.result.now
+    (subst (Scanned line) (sym c.as_slice-cells.ensures) c.read_cells-found.ensures) c.in_default-check_cells.ensures c.in_default-first_marked-2.ensures
+    c.in-Some-read_number.value c.in-Some-read_number.ensures (omega arith) (omega arith) c.if-line-ne10-2.false)

@@ -18,14 +18,14 @@ loop-j-preserved c =
       | then-j-cells w ↦
           ap (take ((j + 1) * 10)) w.line-is
           ∙ cell_slot line cs j ((j * 10 + 10) - j * 10) l (omega arith) c.loop-j-test.true storable c.loop-j.invariant
-          c.cells-cells.result.now (record { letter = 0; number = 0 }) w.write-cell.new.part w.write-cell.result c.cells-cells.ensures.value w.if-j-cells.true w.write-cell.ensures
+          c.cells-cells.result.now (record { letter = 0; number = 0 }) w.write_cell.new.part w.write_cell.result c.cells-cells.ensures.value w.if-j-cells.true w.write_cell.ensures
       | else-j-cells w ↦
           ap (take ((j + 1) * 10)) w.line-is
           ∙ blank_slot line cs j ((j * 10 + 10) - j * 10) l (omega arith) c.loop-j-test.true storable c.loop-j.invariant
-          c.cells-cells.result.now w.write-blank.new.part c.cells-cells.ensures.value w.if-j-cells.false w.write-blank.ensures
+          c.cells-cells.result.now w.write_blank.new.part c.cells-cells.ensures.value w.if-j-cells.false w.write_blank.ensures
     ]
 
 pub returns : goal.returns
 returns c =
-    count_tail c.loop-j.line (cells_of c.args.key.now) c.args.count.value c.loop-j.j c.write-number.new.part c.write-number.result
-    (c.loop-j.auto.line ∙ c.requires) c.args.count.few (omega arith) (omega arith) c.loop-j.invariant c.write-number.ensures
+    count_tail c.loop-j.line (cells_of c.args.key.now) c.args.count.value c.loop-j.j c.write_number.new.part c.write_number.result
+    (c.loop-j.auto.line ∙ c.requires) c.args.count.few (omega arith) (omega arith) c.loop-j.invariant c.write_number.ensures

@@ -8,10 +8,10 @@ use Rattle.image.specs.Meaning.{line, meaning, entries, Shows}
 use Rattle.stores.proofs.Writes.{row_here, row_next, row_skip}
 use Rattle.image.proofs.Meanings.{line_is, line_length, some_key, entries_at, entries_length}
 use Rattle.image.proofs.lines.nth_row.Goals as goal
-use Rattle.image.proofs.lines.nth_row.Goals.{in-Some+else-left-eq0, in-default}
+use Rattle.image.proofs.lines.nth_row.Goals.{in-Some+else-left-eq0, in_default}
 
-pub read-line-requires : goal.read-line-requires
-read-line-requires c =
+pub read_line-requires : goal.read_line-requires
+read_line-requires c =
     let xs = c.args.image.now in
     let k = c.loop-k.k in
     let e = line_is k ((k * 128 + 128) - k * 128) xs (omega arith) in
@@ -36,12 +36,12 @@ loop-k-preserved c =
     let h = c.loop-k-test.true in
     let l = entries_length xs in
     let e = line_is k ((k * 128 + 128) - k * 128) xs (omega arith) in
-    elim c.match-read-line.branch [
+    elim c.match-read_line.branch [
       | in-Some+else-left-eq0 w ↦
           let m = w.in-Some.ensures ∙ ap meaning e in
           rw w.left-is (row_next (entries xs) k (meaning (line k xs)) (omega arith) (sym (entries_at xs k (meaning (line k xs)) h)) (sym (ap taken m)) c.loop-k.left w.if-left-eq0.false ∙ c.loop-k.invariant)
-      | in-default w ↦
-          let m = w.in-default.ensures ∙ ap meaning e in
+      | in_default w ↦
+          let m = w.in_default.ensures ∙ ap meaning e in
           rw w.left-is (row_skip (entries xs) k (meaning (line k xs)) (omega arith) (sym (entries_at xs k (meaning (line k xs)) h)) (sym (ap taken m)) c.loop-k.left ∙ c.loop-k.invariant)
     ]
 

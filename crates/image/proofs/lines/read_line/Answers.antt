@@ -13,30 +13,30 @@ has-row : (s : List ℕ) (cs ds : List Cell) (k : Key) → Shows Storable s → 
 has-row s cs ds k w scan e key =
     row_and_count (meaning s) cs (take 7 (drop 120 s)) w.good (scanned_cells s ds w scan ∙ sym e) (key_some k cs key) (fit_tail s w)
 
-pub returns-in-err-key : goal.returns-in-err-key
-returns-in-err-key c =
+pub returns-in_err-key : goal.returns-in_err-key
+returns-in_err-key c =
     let s = c.args.line.now in
     rw c.from-residual.ensures
-    (none_from (meaning s) c.as-slice.result.now c.requires.shows.good (scanned_cells s _ c.requires.shows c.read-cells-found.ensures ∙ sym c.as-slice.ensures) c.in-err-key.ensures)
+    (none_from (meaning s) c.as_slice.result.now c.requires.shows.good (scanned_cells s _ c.requires.shows c.read_cells-found.ensures ∙ sym c.as_slice.ensures) c.in_err-key.ensures)
 
-pub returns-in-err-value : goal.returns-in-err-value
-returns-in-err-value c =
+pub returns-in_err-value : goal.returns-in_err-value
+returns-in_err-value c =
     let s = c.args.line.now in
-    let k = has-row s c.as-slice.result.now _ c.in-ok-key.key c.requires.shows c.read-cells-found.ensures c.as-slice.ensures c.in-ok-key.ensures in
-    absurd (tail_never (meaning s) c.as-slice.result.now (take 7 (drop 120 s)) k c.in-err-value.ensures)
+    let k = has-row s c.as_slice.result.now _ c.in_ok-key.key c.requires.shows c.read_cells-found.ensures c.as_slice.ensures c.in_ok-key.ensures in
+    absurd (tail_never (meaning s) c.as_slice.result.now (take 7 (drop 120 s)) k c.in_err-value.ensures)
 
-pub returns-in-err-count : goal.returns-in-err-count
-returns-in-err-count c =
+pub returns-in_err-count : goal.returns-in_err-count
+returns-in_err-count c =
     let s = c.args.line.now in
-    let k = has-row s c.as-slice.result.now _ c.in-ok-key.key c.requires.shows c.read-cells-found.ensures c.as-slice.ensures c.in-ok-key.ensures in
-    let e = tail_count (meaning s) c.as-slice.result.now (take 7 (drop 120 s)) k c.in-ok-value.value (omega arith) c.in-ok-value.ensures in
+    let k = has-row s c.as_slice.result.now _ c.in_ok-key.key c.requires.shows c.read_cells-found.ensures c.as_slice.ensures c.in_ok-key.ensures in
+    let e = tail_count (meaning s) c.as_slice.result.now (take 7 (drop 120 s)) k c.in_ok-value.value (omega arith) c.in_ok-value.ensures in
     let f = k.few in
-    let g = c.in-err-count.ensures in
+    let g = c.in_err-count.ensures in
     absurd (omega arith)
 
 pub returns : goal.returns
 returns c =
     let s = c.args.line.now in
-    let k = has-row s c.as-slice.result.now _ c.in-ok-key.key c.requires.shows c.read-cells-found.ensures c.as-slice.ensures c.in-ok-key.ensures in
-    read_back (meaning s) c.as-slice.result.now (take 7 (drop 120 s)) k (cells_of c.in-ok-key.key) c.in-ok-count.count.value c.in-ok-value.value
-    c.in-ok-key.ensures c.in-ok-count.ensures (omega arith) c.in-ok-value.ensures
+    let k = has-row s c.as_slice.result.now _ c.in_ok-key.key c.requires.shows c.read_cells-found.ensures c.as_slice.ensures c.in_ok-key.ensures in
+    read_back (meaning s) c.as_slice.result.now (take 7 (drop 120 s)) k (cells_of c.in_ok-key.key) c.in_ok-count.count.value c.in_ok-value.value
+    c.in_ok-key.ensures c.in_ok-count.ensures (omega arith) c.in_ok-value.ensures

@@ -7,7 +7,7 @@ use Rattle.stores.specs.Places.{taken}
 use Rattle.image.specs.Meaning.{line, entries}
 use Rattle.image.proofs.Meanings.{line_part, line_length, head_is, free_from, taken_from, entries_length, entries_at}
 use Rattle.image.proofs.lines.used_lines.Goals as goal
-use Rattle.image.proofs.lines.used_lines.Goals.{then-not-is-blank, else-not-is-blank}
+use Rattle.image.proofs.lines.used_lines.Goals.{then-not-is_blank, else-not-is_blank}
 
 pub overflow-add-n : goal.overflow-add-n
 overflow-add-n c =
@@ -28,13 +28,13 @@ loop-k-preserved c =
     let p = line_part k ((k * 128 + 10) - k * 128) 10 xs (omega arith) (omega arith) in
     let n : length (take 10 (line k xs)) ≡ 10 = length-take-le 10 (line k xs) (omega arith) in
     let i = c.loop-k.invariant in
-    elim c.if-not-is-blank.branch [
-      | then-not-is-blank w ↦
-          let t = taken_from (line k xs) (λ e. both_ways c.is-blank.result w.if-not-is-blank.true (c.is-blank.ensures.1 (p ∙ head_is (line k xs) ∙ e ∙ ap blank (sym (ap length p ∙ n))))) in
+    elim c.if-not-is_blank.branch [
+      | then-not-is_blank w ↦
+          let t = taken_from (line k xs) (λ e. both_ways c.is_blank.result w.if-not-is_blank.true (c.is_blank.ensures.1 (p ∙ head_is (line k xs) ∙ e ∙ ap blank (sym (ap length p ∙ n))))) in
           let m = count_by_more_yes taken (entries xs) k None (omega arith) (ap taken (entries_at xs k None h) ∙ t) in
           w.n-is ∙ ap (λ v. v + 1) i ∙ sym m
-      | else-not-is-blank w ↦
-          let t = free_from (line k xs) (sym (head_is (line k xs)) ∙ sym p ∙ c.is-blank.ensures.0 w.if-not-is-blank.false ∙ ap blank (ap length p ∙ n)) in
+      | else-not-is_blank w ↦
+          let t = free_from (line k xs) (sym (head_is (line k xs)) ∙ sym p ∙ c.is_blank.ensures.0 w.if-not-is_blank.false ∙ ap blank (ap length p ∙ n)) in
           let m = count_by_more_no taken (entries xs) k None (omega arith) (ap taken (entries_at xs k None h) ∙ t) in
           w.n-is ∙ i ∙ sym m
     ]

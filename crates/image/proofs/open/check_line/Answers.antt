@@ -25,13 +25,13 @@ returns-in-Err g c =
 at_variant : (Row : List Cell → Type 0) (s : List ℕ) (o q : Option Entry) → o ≡ q → Decoded Row s (Ok o) → Decoded Row s (Ok q)
 at_variant Row s o q e d = subst (λ v. Decoded Row s (Ok v)) e d
 
-pub returns-in-default : goal.returns-in-default
-returns-in-default g c =
+pub returns-in_default : goal.returns-in_default
+returns-in_default g c =
     let xs = c.args.image.now in
     let k = c.args.k in
     let M = g.K.Kind.means c.args.kind.now in
     let sig = c.args.signature.now.arities in
-    let e = at_variant (RowCells sig M) _ c.in-Ok.shown None c.in-default.is c.in-Ok.ensures in
+    let e = at_variant (RowCells sig M) _ c.in-Ok.shown None c.in_default.is c.in-Ok.ensures in
     good_none (RowCells sig M) (row_storable M (g.met.K.Kind.sound c.args.kind.now) sig) xs k c.requires.before
     (sym (line_is k ((k * 128 + 128) - k * 128) xs (omega arith)) ∙ e.1)
 
@@ -46,8 +46,8 @@ returns-in-None g c =
     (holding_of c.in-Some.-entry) e.0 (sym (line_is k ((k * 128 + 128) - k * 128) xs (omega arith)) ∙ e.1)
     _ (line_part k ((k * 128 + 120) - k * 128) 120 xs (omega arith) (omega arith)) c.in-None.ensures
 
-pub returns-in-Some-place-of : goal.returns-in-Some-place-of
-returns-in-Some-place-of g c =
+pub returns-in-Some-place_of : goal.returns-in-Some-place_of
+returns-in-Some-place_of g c =
     let xs = c.args.image.now in
     let k = c.args.k in
     let M = g.K.Kind.means c.args.kind.now in
@@ -55,5 +55,5 @@ returns-in-Some-place-of g c =
     let e = at_variant (RowCells sig M) _ c.in-Ok.shown (Some c.in-Some.-entry) c.in-Some.is c.in-Ok.ensures in
     let a = again (RowCells sig M) (row_storable M (g.met.K.Kind.sound c.args.kind.now) sig) xs k c.requires.before
     (holding_of c.in-Some.-entry) e.0 (sym (line_is k ((k * 128 + 128) - k * 128) xs (omega arith)) ∙ e.1)
-    _ (line_part k ((k * 128 + 120) - k * 128) 120 xs (omega arith) (omega arith)) c.in-Some-place-of.field-0 c.in-Some-place-of.ensures in
+    _ (line_part k ((k * 128 + 120) - k * 128) 120 xs (omega arith) (omega arith)) c.in-Some-place_of.field-0 c.in-Some-place_of.ensures in
     inr (refl, a.0, a.1)

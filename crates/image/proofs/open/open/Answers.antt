@@ -3,6 +3,6 @@ use Rattle.image.proofs.open.open.Goals as goal
 
 pub returns : goal.returns
 returns g c =
-    let s = c.in-ok-signature.ensures in
-    accepted c.in-ok-signature.signature.arities c.args.arities.now (g.K.Kind.means c.args.kind.now) (g.met.K.Kind.sound c.args.kind.now) c.args.image.now
-    s.0 s.1 c.in-ok-check-size.ensures c.in-ok-check-lines.ensures
+    let s = c.in_ok-signature.ensures in
+    accepted c.in_ok-signature.signature.arities c.args.arities.now (g.K.Kind.means c.args.kind.now) (g.met.K.Kind.sound c.args.kind.now) c.args.image.now
+    s.0 s.1 c.in_ok-check_size.ensures c.in_ok-check_lines.ensures

@@ -8,29 +8,29 @@ use Rattle.kinds.proofs.common.one_letter.Goals as goal
 abbrev blank : Condition
 blank = record { form = 0; a = 0; b = 0 }
 
-pub returns-in-err-letter : goal.returns-in-err-letter
-returns-in-err-letter g c =
-    rw c.from-residual.ensures (λ l m. false≢true (ap is_some (c.in-err-letter.ensures ∙ m.0)))
+pub returns-in_err-letter : goal.returns-in_err-letter
+returns-in_err-letter g c =
+    rw c.from-residual.ensures (λ l m. false≢true (ap is_some (c.in_err-letter.ensures ∙ m.0)))
 
-pub returns-in-default : goal.returns-in-default
-returns-in-default g c =
+pub returns-in_default : goal.returns-in_default
+returns-in_default g c =
     letter_other (g.K.Kind.means c.args.kind.now) c.args.first c.args.rest.now c.loop-condition.condition-index blank
-    c.loop-condition-test.true c.in-ok-letter.letter c.in-Some.other c.in-ok-letter.ensures
+    c.loop-condition-test.true c.in_ok-letter.letter c.in-Some.other c.in_ok-letter.ensures
     c.in-Some.ensures c.if-other-letter.false
 
-pub returns-in-default·2 : goal.returns-in-default·2
-returns-in-default·2 g c =
+pub returns-in_default·2 : goal.returns-in_default·2
+returns-in_default·2 g c =
     letter_none (g.K.Kind.means c.args.kind.now) c.args.first c.args.rest.now c.loop-condition.condition-index blank
-    c.loop-condition-test.true c.in-default.ensures
+    c.loop-condition-test.true c.in_default.ensures
 
 pub loop-condition-preserved : goal.loop-condition-preserved
 loop-condition-preserved g c =
     let M = g.K.Kind.means c.args.kind.now in
-    All-more (λ q. M.letters q ≡ Some c.in-ok-letter.letter) c.args.rest.now c.loop-condition.condition-index blank
+    All-more (λ q. M.letters q ≡ Some c.in_ok-letter.letter) c.args.rest.now c.loop-condition.condition-index blank
     c.loop-condition-test.true c.loop-condition.invariant (sym c.in-Some.ensures ∙ ap Some c.if-other-letter.true)
 
 pub returns : goal.returns
 returns g c = (
-  sym c.in-ok-letter.ensures,
+  sym c.in_ok-letter.ensures,
   rw (take_all c.loop-condition.condition-index c.args.rest.now c.loop-condition-test.false) at c.loop-condition.invariant,
 )

@@ -3,11 +3,11 @@ use Rattle.kinds.specs.declared.condition.Condition.{Condition}
 use Rattle.kinds.proofs.Leaps.{held_low, leap_none, leap_over, leap_stays}
 use Rattle.kinds.proofs.common.pass.Goals as goal
 
-pub returns-in-err-low : goal.returns-in-err-low
-returns-in-err-low g c =
+pub returns-in_err-low : goal.returns-in_err-low
+returns-in_err-low g c =
     rw c.from-residual.ensures
     (leap_none (g.K.Kind.means c.args.kind.now) c.args.conditions.now c.loop-condition.condition-index _
-    c.loop-condition-test.true c.args.v c.loop-condition.low c.loop-condition.invariant.1 c.in-err-low.ensures)
+    c.loop-condition-test.true c.args.v c.loop-condition.low c.loop-condition.invariant.1 c.in_err-low.ensures)
 
 pub loop-condition-preserved : goal.loop-condition-preserved
 loop-condition-preserved g c =
@@ -18,8 +18,8 @@ loop-condition-preserved g c =
     let d : Condition = record { form = 0; a = 0; b = 0 } in
     let low = c.loop-condition.low in
     let inv = c.loop-condition.invariant in
-    let next = c.in-ok-low.ensures in
-    let code = c.in-ok-low.low in
+    let next = c.in_ok-low.ensures in
+    let code = c.in_ok-low.low in
     let here = c.loop-condition-test.true in (
       omega arith,
       leap_over M qs i d here c.args.v low inv.1 code next,

@@ -3,24 +3,24 @@ use Rattle.std.proofs.lemmas.Bool.{cases_lt}
 use Rattle.kinds.proofs.Leaps.{round_none, round_over, round_stays, round_low}
 use Rattle.kinds.proofs.common.smallest_code.Goals as goal
 
-pub returns-in-err-start : goal.returns-in-err-start
-returns-in-err-start g c =
+pub returns-in_err-start : goal.returns-in_err-start
+returns-in_err-start g c =
     rw c.from-residual.ensures
-    (λ k _ m. ⊎_elim (λ b. c.rise.invariant k b m) (λ b. c.in-err-start.ensures k b m.0) (cases_lt k c.rise.v))
+    (λ k _ m. ⊎_elim (λ b. c.rise.invariant k b m) (λ b. c.in_err-start.ensures k b m.0) (cases_lt k c.rise.v))
 
-pub returns-in-err-low : goal.returns-in-err-low
-returns-in-err-low g c =
-    rw c.from-residual-in-err-low.ensures
+pub returns-in_err-low : goal.returns-in_err-low
+returns-in_err-low g c =
+    rw c.from-residual-in_err-low.ensures
     (λ k _ m. ⊎_elim (λ b. c.rise.invariant k b m)
-    (λ b. round_none (g.K.Kind.means c.args.kind.now) c.args.first c.args.rest.now c.rise.v c.in-ok-start.start
-    c.in-ok-start.ensures c.in-err-low.ensures k b m)
+    (λ b. round_none (g.K.Kind.means c.args.kind.now) c.args.first c.args.rest.now c.rise.v c.in_ok-start.start
+    c.in_ok-start.ensures c.in_err-low.ensures k b m)
     (cases_lt k c.rise.v))
 
 pub returns-then-low-v : goal.returns-then-low-v
 returns-then-low-v g c = (
   omega arith,
-  round_stays (g.K.Kind.means c.args.kind.now) c.args.first c.args.rest.now c.rise.v c.in-ok-start.start
-      c.in-ok-start.ensures c.in-ok-low.low c.in-ok-low.ensures c.if-low-v.true,
+  round_stays (g.K.Kind.means c.args.kind.now) c.args.first c.args.rest.now c.rise.v c.in_ok-start.start
+      c.in_ok-start.ensures c.in_ok-low.low c.in_ok-low.ensures c.if-low-v.true,
   λ k _ b m. c.rise.invariant k b m,
 )
 
@@ -28,16 +28,16 @@ pub rise-smaller : goal.rise-smaller
 rise-smaller g c =
     omega (
       arith,
-      c.in-ok-start.ensures.0,
-      c.in-ok-low.ensures.0,
+      c.in_ok-start.ensures.0,
+      c.in_ok-low.ensures.0,
       c.if-low-v.false,
-      round_low (g.K.Kind.means c.args.kind.now) c.args.first c.args.rest.now c.rise.v c.in-ok-start.start
-          c.in-ok-start.ensures c.in-ok-low.low c.in-ok-low.ensures (g.met.K.Kind.sound c.args.kind.now),
+      round_low (g.K.Kind.means c.args.kind.now) c.args.first c.args.rest.now c.rise.v c.in_ok-start.start
+          c.in_ok-start.ensures c.in_ok-low.low c.in_ok-low.ensures (g.met.K.Kind.sound c.args.kind.now),
     )
 
 pub rise-preserved : goal.rise-preserved
 rise-preserved g c = λ k u m.
     ⊎_elim (λ b. c.rise.invariant k b m)
-    (λ b. round_over (g.K.Kind.means c.args.kind.now) c.args.first c.args.rest.now c.rise.v c.in-ok-start.start
-    c.in-ok-start.ensures c.in-ok-low.low c.in-ok-low.ensures k b u m)
+    (λ b. round_over (g.K.Kind.means c.args.kind.now) c.args.first c.args.rest.now c.rise.v c.in_ok-start.start
+    c.in_ok-start.ensures c.in_ok-low.low c.in_ok-low.ensures k b u m)
     (cases_lt k c.rise.v)

@@ -6,8 +6,8 @@ use Rattle.ledger.specs.Words.{right_of}
 use Rattle.ledger.specs.Clashes.{Clashing, request}
 use Rattle.ledger.proofs.clash.first_clash.Goals as goal
 
-pub clash-with-requires : goal.clash-with-requires
-clash-with-requires g c =
+pub clash_with-requires : goal.clash_with-requires
+clash_with-requires g c =
     let x = c.index-reservations-index.result in
     let hs = c.args.reservations.now in
     record {
@@ -18,9 +18,9 @@ clash-with-requires g c =
 
 pub loop-index-preserved : goal.loop-index-preserved
 loop-index-preserved g c = (
-  c.clash-with.ensures.blank,
+  c.clash_with.ensures.blank,
   none_more (Clashing c.args.signature.now.arities (g.K.Kind.means c.args.kind.now) (request c.args.transaction (right_of c.args.right) (described c.args.pattern.now)))
-      c.args.reservations.now c.loop-index.index c.index-reservations-index.result c.loop-index-test.true c.index-reservations-index.is c.loop-index.invariant.1 c.in-default.ensures.answer,
+      c.args.reservations.now c.loop-index.index c.index-reservations-index.result c.loop-index-test.true c.index-reservations-index.is c.loop-index.invariant.1 c.in_default.ensures.answer,
 )
 
 pub returns : goal.returns

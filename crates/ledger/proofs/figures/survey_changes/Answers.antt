@@ -9,7 +9,7 @@ use Rattle.serial.specs.Surveys.{Changed}
 use Rattle.ledger.specs.Words.{pending_of}
 use Rattle.ledger.proofs.Counting.{own_taken, own_passed}
 use Rattle.ledger.proofs.figures.survey_changes.Goals as goal
-use Rattle.ledger.proofs.figures.survey_changes.Goals.{in-Some, in-default}
+use Rattle.ledger.proofs.figures.survey_changes.Goals.{in-Some, in_default}
 
 pub loop-change-preserved : goal.loop-change-preserved
 loop-change-preserved g c =
@@ -30,11 +30,11 @@ loop-change-preserved g c =
             omega arith,
             omega arith,
           ))
-      | in-default w ↦
+      | in_default w ↦
           (let en = w.number-is in
           let et = w.total-is in (
             c.adds.ensures.blank,
-            (λ m. rw (w.number-is, w.total-is) (own_passed c.args.transaction cs c.requires.keys m fits c.loop-change.number c.loop-change.total i c.change-item.result c.loop-change-test.true c.change-item.is (inv.1 m) w.in-default.ensures.answer)),
+            (λ m. rw (w.number-is, w.total-is) (own_passed c.args.transaction cs c.requires.keys m fits c.loop-change.number c.loop-change.total i c.change-item.result c.loop-change-test.true c.change-item.is (inv.1 m) w.in_default.ensures.answer)),
             omega arith,
             omega arith,
           ))

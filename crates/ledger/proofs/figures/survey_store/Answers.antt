@@ -12,7 +12,7 @@ use Rattle.serial.proofs.Surveys.{rows_start}
 use Rattle.ledger.specs.Words.{pending_of}
 use Rattle.ledger.proofs.Counting.{at_nth, nth_none, store_taken, store_passed}
 use Rattle.ledger.proofs.figures.survey_store.Goals as goal
-use Rattle.ledger.proofs.figures.survey_store.Goals.{in-Some+then-stands, in-Some+else-stands, in-default}
+use Rattle.ledger.proofs.figures.survey_store.Goals.{in-Some+then-stands, in-Some+else-stands, in_default}
 
 pub loop-k-init : goal.loop-k-init
 loop-k-init g c = (
@@ -57,7 +57,7 @@ loop-k-preserved g c =
             omega arith,
             omega arith,
           ))
-      | in-default w ↦ absurd (nth_none rows k [] h w.in-default.ensures.row)
+      | in_default w ↦ absurd (nth_none rows k [] h w.in_default.ensures.row)
     ]
 
 pub returns : goal.returns

@@ -7,7 +7,7 @@ use Rattle.modelbase.proofs.blank.blank_image.Goals as goal
 pub loop-k-preserved : goal.loop-k-preserved
 loop-k-preserved c =
     let here : vec_len c.loop-k.image ≡ c.loop-k.k = c.loop-k.invariant.0
-    in let pushed : is_ok c.push.result ≡ true = ap is_ok (c.branch-push.ensures ∙ ap result_from_control_flow c.in-ok-push.is)
+    in let pushed : is_ok c.push.result ≡ true = ap is_ok (c.branch-push.ensures ∙ ap result_from_control_flow c.in_ok-push.is)
     in let grown : ℕ → Bool → ℕ = λ n b. cond b (n + 1) n
     in let at : ℕ → Type 0 = λ n. BlankAt c.loop-k.k (get_or (vec_items c.push.new.self) n 0)
     in (
@@ -17,5 +17,5 @@ loop-k-preserved c =
           let lt : k < vec_len c.loop-k.image = omega (arith, here, h)
           in subst (BlankAt k) (sym (c.push.ensures.places.0 k 0 lt)) (c.loop-k.invariant.1 k h)
           )
-          (subst at here (subst (BlankAt c.loop-k.k) (sym (c.push.ensures.places.1 0 pushed)) c.blank-byte.ensures)),
+          (subst at here (subst (BlankAt c.loop-k.k) (sym (c.push.ensures.places.1 0 pushed)) c.blank_byte.ensures)),
     )

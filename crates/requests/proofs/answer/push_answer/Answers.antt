@@ -13,7 +13,7 @@ returns c =
     let F = field 7 l.first in
     let S = field 11 l.second in
     let R = sample_text l.sample in
-    onto (vec_items c.args.out.now) W (N ++ (F ++ (S ++ R))) c.in-ok-push-word.ensures
-    (onto (vec_items c.push-word.new.out) N (F ++ (S ++ R)) c.in-ok-push-columns.ensures
-    (onto (vec_items c.push-columns.new.out) F (S ++ R) c.in-ok-push-field.ensures
-    (onto (vec_items c.push-field.new.out) S R c.in-ok-push-field-2.ensures c.in-ok-push-sample.ensures)))
+    onto (vec_items c.args.out.now) W (N ++ (F ++ (S ++ R))) c.in_ok-push_word.ensures
+    (onto (vec_items c.push_word.new.out) N (F ++ (S ++ R)) c.in_ok-push_columns.ensures
+    (onto (vec_items c.push_columns.new.out) F (S ++ R) c.in_ok-push_field.ensures
+    (onto (vec_items c.push_field.new.out) S R c.in_ok-push_field-2.ensures c.in_ok-push_sample.ensures)))

@@ -11,5 +11,5 @@ returns c =
     let from = c.len-from.result in
     let l : length start ≡ from = sym (c.len-from.ensures ∙ c.args.out.now.ok.0) in
     let part = c.after.ensures ∙ ap (drop from) c.deref.ensures.value in
-    let cut = cut_back start text (vec_items c.push-answer.new.out) c.after.result.now from c.trimmed-len-len.result c.in-ok-push-answer.ensures l part c.trimmed-len-len.ensures.value in
-    onto start (trim text) (10 ∷ []) (c.truncate.ensures.items ∙ cut) c.in-ok-push.ensures.items
+    let cut = cut_back start text (vec_items c.push_answer.new.out) c.after.result.now from c.trimmed_len-len.result c.in_ok-push_answer.ensures l part c.trimmed_len-len.ensures.value in
+    onto start (trim text) (10 ∷ []) (c.truncate.ensures.items ∙ cut) c.in_ok-push.ensures.items

@@ -6,17 +6,17 @@ use Rattle.std.proofs.lemmas.Bool.{false≢true}
 use Rattle.requests.specs.Layout.{LaidCell}
 use Rattle.requests.proofs.laid.are_laid_cells.Goals as goal
 
-pub returns-then-not-is-laid-cell : goal.returns-then-not-is-laid-cell
-returns-then-not-is-laid-cell c =
+pub returns-then-not-is_laid_cell : goal.returns-then-not-is_laid_cell
+returns-then-not-is_laid_cell c =
     let xs = c.args.cells.now in
     let i = c.loop-cell.cell-index in (
       λ e. absurd (false≢true e),
-      λ all. absurd (false≢true (sym c.if-not-is-laid-cell.true ∙ c.is-laid-cell.ensures.1 (All-get_or LaidCell xs i _ c.loop-cell-test.true all))),
+      λ all. absurd (false≢true (sym c.if-not-is_laid_cell.true ∙ c.is_laid_cell.ensures.1 (All-get_or LaidCell xs i _ c.loop-cell-test.true all))),
     )
 
 pub loop-cell-preserved : goal.loop-cell-preserved
 loop-cell-preserved c =
-    All-more LaidCell c.args.cells.now c.loop-cell.cell-index _ c.loop-cell-test.true c.loop-cell.invariant (c.is-laid-cell.ensures.0 c.if-not-is-laid-cell.false)
+    All-more LaidCell c.args.cells.now c.loop-cell.cell-index _ c.loop-cell-test.true c.loop-cell.invariant (c.is_laid_cell.ensures.0 c.if-not-is_laid_cell.false)
 
 pub returns : goal.returns
 returns c =

@@ -3,12 +3,12 @@ use Rattle.std.proofs.lemmas.List.{get_or_past}
 use Rattle.std.proofs.lemmas.Bool.{cases_lt, false≢true}
 use Rattle.requests.proofs.lines.alike.Goals as goal
 
-pub returns-then-byte-at : goal.returns-then-byte-at
-returns-then-byte-at c =
-    (λ e. absurd (false≢true e), λ a. absurd (c.if-byte-at.true (c.byte-at.ensures ∙ a c.loop-i.i ∙ sym c.byte-at-in-loop-i.ensures)))
+pub returns-then-byte_at : goal.returns-then-byte_at
+returns-then-byte_at c =
+    (λ e. absurd (false≢true e), λ a. absurd (c.if-byte_at.true (c.byte_at.ensures ∙ a c.loop-i.i ∙ sym c.byte_at-in-loop-i.ensures)))
 
 pub loop-i-preserved : goal.loop-i-preserved
-loop-i-preserved c = below_more _ _ c.loop-i.invariant (sym c.byte-at.ensures ∙ c.if-byte-at.false ∙ c.byte-at-in-loop-i.ensures)
+loop-i-preserved c = below_more _ _ c.loop-i.invariant (sym c.byte_at.ensures ∙ c.if-byte_at.false ∙ c.byte_at-in-loop-i.ensures)
 
 pub returns : goal.returns
 returns c =

@@ -9,7 +9,7 @@ loop-i-preserved c =
     let gs = c.args.groups.now in
     let i = c.loop-i.i in
     let found = vec_items c.loop-i.found in (
-      ap (λ t. t ++ conditions (drop (i + 3) gs)) c.in-ok-push.ensures.items
+      ap (λ t. t ++ conditions (drop (i + 3) gs)) c.in_ok-push.ensures.items
           ∙ append_assoc found (_ ∷ []) (conditions (drop (i + 3) gs))
           ∙ ap (λ t. found ++ t) (sym (conditions_step gs i _ (omega arith)))
           ∙ c.loop-i.invariant.0,

@@ -5,11 +5,11 @@ use Rattle.requests.proofs.loose.guess_request.Goals as goal
 
 pub returns : goal.returns
 returns c a s =
-    c.in-ok-request.ensures
-    ∙ asked_back c.args.line.now c.guess.result c.number-in-first.result c.number-in-second.result c.byte-at.result (vec_items c.in-ok-groups.groups)
+    c.in_ok-request.ensures
+    ∙ asked_back c.args.line.now c.guess.result c.number_in-first.result c.number_in-second.result c.byte_at.result (vec_items c.in_ok-groups.groups)
     c.guess.ensures
-    (λ k h e. c.number-in-first.ensures k h (ap (front 7) c.after-2.ensures ∙ e))
-    (λ k h e. c.number-in-second.ensures k h (ap (front 7) c.after-3.ensures ∙ e))
-    c.byte-at.ensures
-    (λ hs short e. c.in-ok-groups.ensures hs short (λ i. ap (λ t. get_or t i 32) c.after.ensures ∙ e i))
+    (λ k h e. c.number_in-first.ensures k h (ap (front 7) c.after-2.ensures ∙ e))
+    (λ k h e. c.number_in-second.ensures k h (ap (front 7) c.after-3.ensures ∙ e))
+    c.byte_at.ensures
+    (λ hs short e. c.in_ok-groups.ensures hs short (λ i. ap (λ t. get_or t i 32) c.after.ensures ∙ e i))
     a s

@@ -6,6 +6,6 @@ use Rattle.requests.proofs.loose.number_in.Goals as goal
 
 pub returns-in-Some : goal.returns-in-Some
 returns-in-Some c n h e =
-    let part = c.copy-front.new.columns in
-    let l : length part ≡ 7 = ap length c.copy-front.ensures ∙ front_length 7 c.args.line.now in
-    columns_same 7 c.in-Some.n n (omega arith) (omega arith) (ap (λ m. columns m c.in-Some.n) (sym l) ∙ sym c.in-Some.ensures ∙ c.copy-front.ensures ∙ e)
+    let part = c.copy_front.new.columns in
+    let l : length part ≡ 7 = ap length c.copy_front.ensures ∙ front_length 7 c.args.line.now in
+    columns_same 7 c.in-Some.n n (omega arith) (omega arith) (ap (λ m. columns m c.in-Some.n) (sym l) ∙ sym c.in-Some.ensures ∙ c.copy_front.ensures ∙ e)

@@ -1,4 +1,4 @@
 use Rattle.requests.proofs.push.+push_columns.Given as goal
 
-abbrev pub decreases-push-columns : goal.decreases-push-columns
-decreases-push-columns l = l.n
+abbrev pub decreases-push_columns : goal.decreases-push_columns
+decreases-push_columns l = l.n

@@ -8,7 +8,7 @@ pub loop-preserved : goal.loop-preserved
 loop-preserved c =
     let start = vec_items c.args.out.now in
     let i = c.loop.counter in
-    pushed (32 ∷ []) c.loop.invariant c.in-ok-push.was c.push.ensures.items ∙ append_assoc start (blank i) (32 ∷ []) ∙ ap (λ t. start ++ t) (replicate_more i 32)
+    pushed (32 ∷ []) c.loop.invariant c.in_ok-push.was c.push.ensures.items ∙ append_assoc start (blank i) (32 ∷ []) ∙ ap (λ t. start ++ t) (replicate_more i 32)
 
 pub returns : goal.returns
 returns c =

@@ -6,4 +6,4 @@ use Rattle.requests.proofs.push.push_cell.Goals as goal
 pub returns : goal.returns
 unfolding cell_text
 returns c =
-    onto (vec_items c.args.out.now) (c.args.cell.letter ∷ []) (columns 9 c.args.cell.number) c.in-ok-push.ensures.items c.in-ok-push-columns.ensures
+    onto (vec_items c.args.out.now) (c.args.cell.letter ∷ []) (columns 9 c.args.cell.number) c.in_ok-push.ensures.items c.in_ok-push_columns.ensures

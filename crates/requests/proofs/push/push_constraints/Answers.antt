@@ -8,7 +8,7 @@ use Rattle.requests.proofs.push.push_constraints.Goals as goal
 pub loop-constraint-preserved : goal.loop-constraint-preserved
 loop-constraint-preserved c =
     joined_next (λ k. flat_map cell_text (three k)) (vec_items c.args.out.now) c.args.constraints.now c.loop-constraint.constraint-index _
-    c.loop-constraint-test.true c.loop-constraint.invariant c.in-ok-push-constraint.ensures
+    c.loop-constraint-test.true c.loop-constraint.invariant c.in_ok-push_constraint.ensures
 
 pub returns : goal.returns
 returns c =

@@ -11,6 +11,6 @@ returns c =
     let S = field 7 c.args.second in
     let R = c.args.right ∷ [] in
     let W = word_text c.args.word in
-    onto start W (F ++ (S ++ R)) (c.in-ok-extend-from-slice.ensures.items ∙ ap (λ t. start ++ t) c.bytes.ensures)
-    (onto (vec_items c.extend-from-slice.new.self) F (S ++ R) c.in-ok-push-field.ensures
-    (onto (vec_items c.push-field.new.out) S R c.in-ok-push-field-2.ensures c.in-ok-push.ensures.items))
+    onto start W (F ++ (S ++ R)) (c.in_ok-extend_from_slice.ensures.items ∙ ap (λ t. start ++ t) c.bytes.ensures)
+    (onto (vec_items c.extend_from_slice.new.self) F (S ++ R) c.in_ok-push_field.ensures
+    (onto (vec_items c.push_field.new.out) S R c.in_ok-push_field-2.ensures c.in_ok-push.ensures.items))

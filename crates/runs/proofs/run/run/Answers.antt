@@ -5,8 +5,8 @@ use Rattle.runs.proofs.run.run.Goals as goal
 
 pub loop-i-init : goal.loop-i-init
 loop-i-init g c =
-    let m = c.in-ok-manager.manager in
-    let made = c.in-ok-manager.ensures.answers in (
+    let m = c.in_ok-manager.manager in
+    let made = c.in_ok-manager.ensures.answers in (
       going_start g.K.Kind.means m.kind m.signature.arities (g.S.Store.places c.args.store.now) (g.S.Store.means c.args.store.now) c.args.calls.now c.args.answers.now c.args.buffers.now m c.args.memory.now
           (record { signature = refl; kind = refl; book = made.1.book }) made.0.0,
       refl,
@@ -18,7 +18,7 @@ answer-requires g c = record { sizes = c.loop-i.invariant.0.lengths; well = c.lo
 
 pub loop-i-preserved : goal.loop-i-preserved
 loop-i-preserved g c =
-    let m = c.in-ok-manager.manager in
+    let m = c.in_ok-manager.manager in
     let i = c.loop-i.i in
     let e = c.min-n.ensures in
     let e1 = c.min.ensures in
@@ -42,8 +42,8 @@ loop-i-preserved g c =
 
 pub returns : goal.returns
 returns g c =
-    let m = c.in-ok-manager.manager in
-    let new = c.in-ok-manager.ensures.answers in
+    let m = c.in_ok-manager.manager in
+    let new = c.in_ok-manager.ensures.answers in
     let i = c.loop-i.i in
     let n = c.min-n.result in
     let places = g.S.Store.places c.args.store.now in

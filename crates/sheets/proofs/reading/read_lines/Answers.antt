@@ -4,7 +4,7 @@ use Rattle.std.proofs.lemmas.List.{map-append}
 use Rattle.requests.specs.Layout.{asked_of}
 use Rattle.sheets.specs.Sheets.{ReadEach, unended}
 use Rattle.sheets.proofs.reading.read_lines.Goals as goal
-use Rattle.sheets.proofs.reading.read_lines.Goals.{then-split-gt0+in-ok-push, else-split-gt0}
+use Rattle.sheets.proofs.reading.read_lines.Goals.{then-split-gt0+in_ok-push, else-split-gt0}
 
 some : (rest : List ℕ) → 0 < length rest → unended rest ≡ None ∷ []
 some [] l = absurd (omega arith)
@@ -16,26 +16,26 @@ none (b ∷ rest) l = absurd (omega arith)
 
 pub returns : goal.returns
 returns c =
-    let split = c.in-ok-split.split in
+    let split = c.in_ok-split.split in
     let rest = split.rest.now in
-    let asked = map (option_map asked_of) (vec_items c.in-ok-lines.lines) in
-    let read = subst (λ l. ReadEach (map (λ x. x.now) l) asked) c.as-slice.ensures.value c.in-ok-lines.ensures in
+    let asked = map (option_map asked_of) (vec_items c.in_ok-lines.lines) in
+    let read = subst (λ l. ReadEach (map (λ x. x.now) l) asked) c.as_slice.ensures.value c.in_ok-lines.ensures in
     elim c.if-split-gt0.branch [
-      | then-split-gt0+in-ok-push w ↦ record {
+      | then-split-gt0+in_ok-push w ↦ record {
         ended = map (λ x. x.now) (vec_items split.ended);
         rest = rest;
-        lines = c.in-ok-split.ensures;
+        lines = c.in_ok-split.ensures;
         asked = asked;
         read = read;
         all = ap (λ v. map (option_map asked_of) (vec_items v)) w.lines-is
-            ∙ ap (map (option_map asked_of)) w.in-ok-push.ensures.items
-            ∙ map-append (option_map asked_of) (vec_items c.in-ok-lines.lines) (None ∷ [])
+            ∙ ap (map (option_map asked_of)) w.in_ok-push.ensures.items
+            ∙ map-append (option_map asked_of) (vec_items c.in_ok-lines.lines) (None ∷ [])
             ∙ ap (λ k. asked ++ k) (sym (some rest w.if-split-gt0.true));
       }
       | else-split-gt0 w ↦ record {
         ended = map (λ x. x.now) (vec_items split.ended);
         rest = rest;
-        lines = c.in-ok-split.ensures;
+        lines = c.in_ok-split.ensures;
         asked = asked;
         read = read;
         all = ap (λ v. map (option_map asked_of) (vec_items v)) w.lines-is ∙ sym (append-nil asked) ∙ ap (λ k. asked ++ k) (sym (none rest w.if-split-gt0.false));

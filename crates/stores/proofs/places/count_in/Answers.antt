@@ -5,7 +5,7 @@ use Rattle.stores.specs.Table.{place_of, contents}
 use Rattle.stores.proofs.Writes.{first_find, none_find}
 use Rattle.stores.proofs.Records.{within, record_at, no_hit_more, hits_same, hits_other, contents_length}
 use Rattle.stores.proofs.places.count_in.Goals as goal
-use Rattle.stores.proofs.places.count_in.Goals.{in-Used+else-eq, in-default}
+use Rattle.stores.proofs.places.count_in.Goals.{in-Used+else-eq, in_default}
 
 pub returns-then-eq : goal.returns-then-eq
 returns-then-eq c =
@@ -28,9 +28,9 @@ loop-record-preserved c =
       | in-Used+else-eq w ↦
           no_hit_more rs c.loop-record.record-index r c.loop-record-test.true c.record-item.is q
           (hits_other r w.in-Used.entry q w.eq.result w.in-Used.is w.eq.ensures w.if-eq.false) c.loop-record.invariant
-      | in-default w ↦
+      | in_default w ↦
           no_hit_more rs c.loop-record.record-index r c.loop-record-test.true c.record-item.is q
-          (ap (λ r. hits (place_of r) q) w.in-default.is) c.loop-record.invariant
+          (ap (λ r. hits (place_of r) q) w.in_default.is) c.loop-record.invariant
     ]
 
 pub returns : goal.returns

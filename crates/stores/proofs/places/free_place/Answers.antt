@@ -12,7 +12,7 @@ returns-in-Free c = (
 
 pub loop-k-preserved : goal.loop-k-preserved
 loop-k-preserved c =
-    count_yes c.args.records.now c.loop-k.k c.index-records-k.result c.loop-k-test.true c.index-records-k.is (ap (λ r. taken (place_of r)) c.in-default.is)
+    count_yes c.args.records.now c.loop-k.k c.index-records-k.result c.loop-k-test.true c.index-records-k.is (ap (λ r. taken (place_of r)) c.in_default.is)
     ∙ ap (λ n. n + 1) c.loop-k.invariant
 
 pub returns : goal.returns

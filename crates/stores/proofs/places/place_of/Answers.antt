@@ -4,7 +4,7 @@ use Rattle.stores.specs.Places.{hits}
 use Rattle.stores.specs.Table.{place_of}
 use Rattle.stores.proofs.Records.{hit_at, no_hit_more, hits_same, hits_other}
 use Rattle.stores.proofs.places.place_of.Goals as goal
-use Rattle.stores.proofs.places.place_of.Goals.{in-Used+else-eq, in-default}
+use Rattle.stores.proofs.places.place_of.Goals.{in-Used+else-eq, in_default}
 
 pub returns-then-eq : goal.returns-then-eq
 returns-then-eq c =
@@ -23,7 +23,7 @@ loop-k-preserved c =
       | in-Used+else-eq w ↦
           no_hit_more c.args.records.now c.loop-k.k r c.loop-k-test.true c.index-records-k.is q
           (hits_other r w.in-Used.entry q w.eq.result w.in-Used.is w.eq.ensures w.if-eq.false) c.loop-k.invariant
-      | in-default w ↦
+      | in_default w ↦
           no_hit_more c.args.records.now c.loop-k.k r c.loop-k-test.true c.index-records-k.is q
-          (ap (λ r. hits (place_of r) q) w.in-default.is) c.loop-k.invariant
+          (ap (λ r. hits (place_of r) q) w.in_default.is) c.loop-k.invariant
     ]

@@ -6,7 +6,7 @@ use Rattle.stores.specs.Table.{holding_of, place_of, contents}
 use Rattle.stores.proofs.Writes.{row_here, row_next, row_skip}
 use Rattle.stores.proofs.Records.{within, record_is, contents_length}
 use Rattle.stores.proofs.places.used_row.Goals as goal
-use Rattle.stores.proofs.places.used_row.Goals.{in-Used+else-left-eq0, in-default}
+use Rattle.stores.proofs.places.used_row.Goals.{in-Used+else-left-eq0, in_default}
 
 pub returns-then-left-eq0 : goal.returns-then-left-eq0
 returns-then-left-eq0 c =
@@ -28,9 +28,9 @@ loop-record-preserved c =
           rw w.left-is
           (row_next (contents rs) i (Some (holding_of w.in-Used.entry)) (within rs i r h c.record-item.is) (record_is rs i r h c.record-item.is _ (ap place_of w.in-Used.is))
           refl c.loop-record.left w.if-left-eq0.false ∙ c.loop-record.invariant)
-      | in-default w ↦
+      | in_default w ↦
           rw w.left-is
-          (row_skip (contents rs) i None (within rs i r h c.record-item.is) (record_is rs i r h c.record-item.is _ (ap place_of w.in-default.is))
+          (row_skip (contents rs) i None (within rs i r h c.record-item.is) (record_is rs i r h c.record-item.is _ (ap place_of w.in_default.is))
           refl c.loop-record.left ∙ c.loop-record.invariant)
     ]
 

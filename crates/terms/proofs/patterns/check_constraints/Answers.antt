@@ -14,10 +14,10 @@ returns-then-place-ge-MOST g c =
       | then-place-ge-MOST-via-else-place-ge-MOST+then-constraint-ge-VARIABLES w ↦ inr w.if-constraint-ge-VARIABLES.true
     ])
 
-pub returns-in-err-check-condition : goal.returns-in-err-check-condition
-returns-in-err-check-condition g c =
+pub returns-in_err-check_condition : goal.returns-in_err-check_condition
+returns-in_err-check_condition g c =
     let p = err_from_is_err_and c.from-residual.result c.from-residual.ensures.1 in
-    let q = c.in-err-check-condition.ensures in
+    let q = c.in_err-check_condition.ensures in
     rw (p.1, p.2, q.0)
     (condition_refused (g.K.Kind.means c.args.kind.now) c.args.constraints.now c.loop-place.place _ c.loop-place-test.true c.loop-place.invariant
     c.if-place-ge-MOST.false c.if-constraint-ge-VARIABLES.false q.1)
@@ -25,7 +25,7 @@ returns-in-err-check-condition g c =
 pub loop-place-preserved : goal.loop-place-preserved
 loop-place-preserved g c =
     constraints_more (g.K.Kind.means c.args.kind.now) c.args.constraints.now c.loop-place.place _ c.loop-place-test.true c.loop-place.invariant
-    c.if-place-ge-MOST.false (c.if-constraint-ge-VARIABLES.false, c.in-ok-check-condition.ensures)
+    c.if-place-ge-MOST.false (c.if-constraint-ge-VARIABLES.false, c.in_ok-check_condition.ensures)
 
 pub returns : goal.returns
 returns g c =

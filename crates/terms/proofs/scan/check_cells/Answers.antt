@@ -14,32 +14,32 @@ pub loop-place-init : goal.loop-place-init
 loop-place-init g c =
     before_start c.args.signature.now.arities c.args.signature.now.nought (g.K.Kind.means c.args.kind.now) (variables c.args.shape) (limit c.args.shape) c.args.cells.now (some-limit c.args.shape)
 
-pub scan-cell-requires : goal.scan-cell-requires
-scan-cell-requires g c = (search rules, at_most c.args.shape c.loop-place.invariant.room)
+pub scan_cell-requires : goal.scan_cell-requires
+scan_cell-requires g c = (search rules, at_most c.args.shape c.loop-place.invariant.room)
   where
     at_most : (s : Shape) → c.loop-place.place + c.loop-place.to_come ≤ limit s → c.loop-place.to_come ≤ 24
     at_most Row h = omega arith
     at_most Pattern h = omega arith
 
-pub returns-in-err-to-come : goal.returns-in-err-to-come
-returns-in-err-to-come g c =
+pub returns-in_err-to_come : goal.returns-in_err-to_come
+returns-in_err-to_come g c =
     let p = err_from_is_err_and c.from-residual.result c.from-residual.ensures.1 in
     rw (p.1, p.2)
     (refused_here c.args.signature.now.arities c.args.signature.now.nought (g.K.Kind.means c.args.kind.now) (variables c.args.shape) (limit c.args.shape)
-    c.args.cells.now c.loop-place.place c.loop-place.to_come c.loop-place.invariant _ c.loop-place-test.true c.in-err-to-come.field-0.0 c.in-err-to-come.ensures)
+    c.args.cells.now c.loop-place.place c.loop-place.to_come c.loop-place.invariant _ c.loop-place-test.true c.in_err-to_come.field-0.0 c.in_err-to_come.ensures)
 
 pub loop-place-preserved : goal.loop-place-preserved
 loop-place-preserved g c =
-    let e = c.in-ok-to-come.ensures in
+    let e = c.in_ok-to_come.ensures in
     subst (λ (n : ℕ). Before c.args.signature.now.arities c.args.signature.now.nought (g.K.Kind.means c.args.kind.now) (variables c.args.shape) (limit c.args.shape)
     c.args.cells.now (c.loop-place.place + 1) n) (sym e.1)
     (before_more c.args.signature.now.arities c.args.signature.now.nought (g.K.Kind.means c.args.kind.now) (variables c.args.shape) (limit c.args.shape)
     c.args.cells.now c.loop-place.place c.loop-place.to_come c.loop-place.invariant _ c.loop-place-test.true e.0)
 
-pub returns-then-to-come-gt0 : goal.returns-then-to-come-gt0
-returns-then-to-come-gt0 g c =
+pub returns-then-to_come-gt0 : goal.returns-then-to_come-gt0
+returns-then-to_come-gt0 g c =
     refused_end c.args.signature.now.arities c.args.signature.now.nought (g.K.Kind.means c.args.kind.now) (variables c.args.shape) (limit c.args.shape)
-    c.args.cells.now c.loop-place.place c.loop-place.to_come c.loop-place.invariant (omega arith) c.if-to-come-gt0.true
+    c.args.cells.now c.loop-place.place c.loop-place.to_come c.loop-place.invariant (omega arith) c.if-to_come-gt0.true
 
 pub returns : goal.returns
 returns g c =

@@ -10,7 +10,7 @@ pub returns : goal.returns
 returns g c =
     let m = c.args.self.now in
     let x = c.args.memory.now in
-    let z = c.in-ok-check-sizes.ensures in
+    let z = c.in_ok-check_sizes.ensures in
     let zt = z.transactions in
     let n = m.last_transaction + 1 in
     let len = c.len.ensures in

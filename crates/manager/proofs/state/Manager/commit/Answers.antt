@@ -9,7 +9,7 @@ invariant-of-self g c =
     let m = c.args.self.now in
     let m' = c.end.new.self in
     let e0 = m.ended in
-    let less = c.end.ensures.fewer c.in-ok-check-open.ensures in
+    let less = c.end.ensures.fewer c.in_ok-check_open.ensures in
     let k : m'.last_commit ≡ m.last_commit = ap (λ b. b.last_commit) c.end.ensures.book in
     let t : m'.last_transaction ≡ m.last_transaction = ap (λ b. b.last_transaction) c.end.ensures.book in
     let f0 = m'.few in
@@ -25,8 +25,8 @@ returns g c =
     let m = c.args.self.now in
     let m' = c.end.new.self in
     let x = c.args.memory.now in
-    let z = c.in-ok-check-sizes.ensures in
-    let r = c.in-ok-enter-own.ensures in
+    let z = c.in_ok-check_sizes.ensures in
+    let r = c.in_ok-enter_own.ensures in
     let b = book_of m x in
     let c' = book_of m' c.end.new.memory in
     let n = m'.last_commit + 1 in
@@ -35,8 +35,8 @@ returns g c =
       transactions = c'.transactions;
       reservations = c'.reservations;
       changes = c'.changes;
-      last_transaction = c'.last-transaction;
-      last_reservation = c'.last-reservation;
+      last_transaction = c'.last_transaction;
+      last_reservation = c'.last_reservation;
       last_commit = n;
       tally = c'.tally;
     } in
@@ -51,7 +51,7 @@ returns g c =
     }) c.end.ensures.book in
     let f : Fixed m m' = record { signature = c.end.ensures.fixed.signature; kind = c.end.ensures.fixed.kind } in
     record {
-      answers = ((z, (c.in-ok-check-open.ensures, (r.2, tt))), record { next = ap (λ y. y + 1) k ∙ add-one m.last_commit; store = r.0; book = e });
+      answers = ((z, (c.in_ok-check_open.ensures, (r.2, tt))), record { next = ap (λ y. y + 1) k ∙ add-one m.last_commit; store = r.0; book = e });
       places = r.1;
       well = λ _. fixed_sound g.K.Kind.means m m' b' f (sound_ended m.signature.arities (g.K.Kind.means m.kind) b b' (c.requires z) c.args.transaction n e);
       fixed = record { signature = f.signature; kind = f.kind };

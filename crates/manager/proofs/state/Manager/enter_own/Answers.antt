@@ -5,8 +5,8 @@ use Rattle.ledger.specs.Words.{pending_of}
 use Rattle.ledger.specs.Entering.{Entered}
 use Rattle.manager.proofs.state.Manager.enter_own.Goals as goal
 
-pub enter-changes-requires : goal.enter-changes-requires
-enter-changes-requires g c =
+pub enter_changes-requires : goal.enter_changes-requires
+enter_changes-requires g c =
     let z = c.requires.sizes.changes in
     let s = c.args.self.now.many in
     let l = length-take-le c.args.self.now.changes.len c.args.memory.now.changes.now (omega arith) in
@@ -15,4 +15,4 @@ enter-changes-requires g c =
 
 pub returns : goal.returns
 returns g c =
-    subst (λ l. Entered g.S.Store.means g.S.Store.places c.args.transaction l c.args.store.now c.enter-changes.new.store c.enter-changes.result) c.entries.ensures c.enter-changes.ensures
+    subst (λ l. Entered g.S.Store.means g.S.Store.places c.args.transaction l c.args.store.now c.enter_changes.new.store c.enter_changes.result) c.entries.ensures c.enter_changes.ensures

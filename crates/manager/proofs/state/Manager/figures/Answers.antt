@@ -19,9 +19,9 @@ returns g c =
     let e : cs ≡ take m.changes.len c.args.memory.now.changes.now = c.entries-changes.ensures in
     let keys : KeysOnce (map pending_of cs) = subst (λ (l : List PendingChange). KeysOnce (map pending_of l)) (sym e) (c.requires.well c.requires.sizes).keys in
     record {
-      figures = subst (λ (l : List PendingChange). Figures fits (with_own decided t (map pending_of l) (g.S.Store.means s)) (c.survey-store-stored.result.0 + c.survey-changes-changed.result.0) (c.survey-store-stored.result.1 + c.survey-changes-changed.result.1)) e
+      figures = subst (λ (l : List PendingChange). Figures fits (with_own decided t (map pending_of l) (g.S.Store.means s)) (c.survey_store-stored.result.0 + c.survey_changes-changed.result.0) (c.survey_store-stored.result.1 + c.survey_changes-changed.result.1)) e
           (survey_both decided t (map pending_of cs) (g.S.Store.means s) fits keys (g.S.Store.rows s) (g.S.Store.listed s)
-          c.survey-store-stored.result.0 c.survey-store-stored.result.1 c.survey-changes-changed.result.0 c.survey-changes-changed.result.1
-          c.survey-store-stored.ensures.figures (c.survey-changes-changed.ensures.figures (g.S.Store.means s)));
-      blank = c.survey-changes-changed.ensures.blank;
+          c.survey_store-stored.result.0 c.survey_store-stored.result.1 c.survey_changes-changed.result.0 c.survey_changes-changed.result.1
+          c.survey_store-stored.ensures.figures (c.survey_changes-changed.ensures.figures (g.S.Store.means s)));
+      blank = c.survey_changes-changed.ensures.blank;
     }

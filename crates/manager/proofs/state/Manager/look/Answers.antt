@@ -8,45 +8,45 @@ use Rattle.ledger.specs.Covering.{Covered}
 use Rattle.ledger.proofs.Rows.{storable}
 use Rattle.manager.proofs.state.Manager.look.Goals as goal
 
-pub returns-in-err-row : goal.returns-in-err-row
-returns-in-err-row g c =
-    let p = err_from_is_err_and c.from-residual-in-err-row.result c.from-residual-in-err-row.ensures.1 in
+pub returns-in_err-row : goal.returns-in_err-row
+returns-in_err-row g c =
+    let p = err_from_is_err_and c.from-residual-in_err-row.result c.from-residual-in_err-row.ensures.1 in
     rw (p.1, p.2) (record {
-      answers = (inr (c.in-ok-check-sizes.ensures, inr (c.in-ok-check-open.ensures, inl c.in-err-row.ensures)), tt);
+      answers = (inr (c.in_ok-check_sizes.ensures, inr (c.in_ok-check_open.ensures, inl c.in_err-row.ensures)), tt);
       blank = refl;
     })
 
-pub returns-then-not-is-covered : goal.returns-then-not-is-covered
-returns-then-not-is-covered g c =
+pub returns-then-not-is_covered : goal.returns-then-not-is_covered
+returns-then-not-is_covered g c =
     let m = c.args.self.now in
     let sig = m.signature.arities in
     let M = g.K.Kind.means m.kind in
     let b = book_of m c.args.memory.now in
-    let read = c.in-ok-row.ensures in
+    let read = c.in_ok-row.ensures in
     record {
       answers = (
         inr (
-          c.in-ok-check-sizes.ensures,
+          c.in_ok-check_sizes.ensures,
           inr (
-            c.in-ok-check-open.ensures,
+            c.in_ok-check_open.ensures,
             inr (
               read.1,
-              inl (refl, λ x. c.if-not-is-covered.ensures.answer (subst (λ q. Covered sig M c.args.transaction q false b.reservations) (sym read.0) x)),
+              inl (refl, λ x. c.if-not-is_covered.ensures.answer (subst (λ q. Covered sig M c.args.transaction q false b.reservations) (sym read.0) x)),
             ),
           ),
         ),
         tt,
       );
-      blank = c.is-covered.ensures.blank;
+      blank = c.is_covered.ensures.blank;
     }
 
-pub key-of-key-requires : goal.key-of-key-requires
-key-of-key-requires g c =
+pub key_of-key-requires : goal.key_of-key-requires
+key_of-key-requires g c =
     let m = c.args.self.now in
     let sig = m.signature.arities in
     let M = g.K.Kind.means m.kind in
-    let read = c.in-ok-row.ensures in
-    storable sig M (cells_of c.in-ok-row.row) (g.met.K.Kind.sound m.kind) (subst (RowCells sig M) (sym read.0) read.1)
+    let read = c.in_ok-row.ensures in
+    storable sig M (cells_of c.in_ok-row.row) (g.met.K.Kind.sound m.kind) (subst (RowCells sig M) (sym read.0) read.1)
 
 pub returns : goal.returns
 returns g c =
@@ -54,20 +54,20 @@ returns g c =
     let sig = m.signature.arities in
     let M = g.K.Kind.means m.kind in
     let b = book_of m c.args.memory.now in
-    let read = c.in-ok-row.ensures in
+    let read = c.in_ok-row.ensures in
     record {
       answers = (
         (
-          c.in-ok-check-sizes.ensures,
+          c.in_ok-check_sizes.ensures,
           (
-            c.in-ok-check-open.ensures,
+            c.in_ok-check_open.ensures,
             (
               read.1,
-              (subst (λ q. Covered sig M c.args.transaction q false b.reservations) read.0 c.if-not-is-covered.ensures.answer, tt),
+              (subst (λ q. Covered sig M c.args.transaction q false b.reservations) read.0 c.if-not-is_covered.ensures.answer, tt),
             ),
           ),
         ),
-        c.seen.ensures ∙ ap (own_map c.args.transaction b (g.S.Store.means c.args.store.now)) (c.key-of-key.ensures ∙ read.0),
+        c.seen.ensures ∙ ap (own_map c.args.transaction b (g.S.Store.means c.args.store.now)) (c.key_of-key.ensures ∙ read.0),
       );
-      blank = c.is-covered.ensures.blank;
+      blank = c.is_covered.ensures.blank;
     }

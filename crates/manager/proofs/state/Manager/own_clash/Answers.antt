@@ -10,6 +10,6 @@ pub returns : goal.returns
 returns g c =
     let s = c.args.self.now in
     record {
-      answer = subst (λ (l : List Reservation). MatchOption c.first-clash.result ((h : Reservation) → In h l → ¬ Clashing s.signature.arities (g.K.Kind.means s.kind) (request c.args.transaction (right_of c.args.right) (described c.args.pattern.now)) h) (FirstClash s.signature.arities (g.K.Kind.means s.kind) (request c.args.transaction (right_of c.args.right) (described c.args.pattern.now)) l)) c.entries.ensures c.first-clash.ensures.answer;
-      blank = c.first-clash.ensures.blank;
+      answer = subst (λ (l : List Reservation). MatchOption c.first_clash.result ((h : Reservation) → In h l → ¬ Clashing s.signature.arities (g.K.Kind.means s.kind) (request c.args.transaction (right_of c.args.right) (described c.args.pattern.now)) h) (FirstClash s.signature.arities (g.K.Kind.means s.kind) (request c.args.transaction (right_of c.args.right) (described c.args.pattern.now)) l)) c.entries.ensures c.first_clash.ensures.answer;
+      blank = c.first_clash.ensures.blank;
     }

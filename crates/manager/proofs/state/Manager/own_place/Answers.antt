@@ -7,4 +7,4 @@ use Rattle.manager.proofs.state.Manager.own_place.Goals as goal
 
 pub returns : goal.returns
 returns g c =
-    subst (λ (l : List PendingChange). MatchOption c.place-of.result ((x : PendingChange) → In x l → ¬ For c.args.transaction (cells_of c.args.row.now) x) (FirstFor c.args.transaction (cells_of c.args.row.now) l)) c.entries.ensures c.place-of.ensures
+    subst (λ (l : List PendingChange). MatchOption c.place_of.result ((x : PendingChange) → In x l → ¬ For c.args.transaction (cells_of c.args.row.now) x) (FirstFor c.args.transaction (cells_of c.args.row.now) l)) c.entries.ensures c.place_of.ensures

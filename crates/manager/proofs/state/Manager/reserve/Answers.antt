@@ -11,11 +11,11 @@ use Rattle.manager.proofs.Reserves.{clear, holds, conflicted}
 use Rattle.manager.proofs.Sounds.{pushed_there, sound_reserved, sound_tallied}
 use Rattle.manager.proofs.state.Manager.reserve.Goals as goal
 
-pub returns-in-err-pattern : goal.returns-in-err-pattern
-returns-in-err-pattern g c =
-    let p = err_from_is_err_and c.from-residual-in-err-pattern.result c.from-residual-in-err-pattern.ensures.1 in
+pub returns-in_err-pattern : goal.returns-in_err-pattern
+returns-in_err-pattern g c =
+    let p = err_from_is_err_and c.from-residual-in_err-pattern.result c.from-residual-in_err-pattern.ensures.1 in
     rw (p.1, p.2) (record {
-      answers = (inr (c.in-ok-check-sizes.ensures, inr (c.in-ok-check-open.ensures, inr ((right_of c.in-ok-right.right, c.in-ok-right.ensures), inl (c.in-err-pattern.field-0.0, refl, c.in-err-pattern.ensures)))), (refl, refl));
+      answers = (inr (c.in_ok-check_sizes.ensures, inr (c.in_ok-check_open.ensures, inr ((right_of c.in_ok-right.right, c.in_ok-right.ensures), inl (c.in_err-pattern.field-0.0, refl, c.in_err-pattern.ensures)))), (refl, refl));
       blank = refl;
       well = c.requires;
       fixed = record { signature = refl; kind = refl };
@@ -28,14 +28,14 @@ returns-in-Some g c =
     let x = c.args.memory.now in
     let sig = m.signature.arities in
     let M = g.K.Kind.means m.kind in
-    let z = c.in-ok-check-sizes.ensures in
+    let z = c.in_ok-check_sizes.ensures in
     let zr = z.reservations in
     let s0 = m.some in
     let len = c.len.ensures in
-    let w = right_of c.in-ok-right.right in
-    let named = c.in-ok-right.ensures in
+    let w = right_of c.in_ok-right.right in
+    let named = c.in_ok-right.ensures in
     let p : Description = record { cells = c.args.cells.now; constraints = c.args.constraints.now } in
-    let read = c.in-ok-pattern.ensures in
+    let read = c.in_ok-pattern.ensures in
     let few : m.reservations.len ≤ length x.reservations.now = omega arith in
     let long = length-take-le m.reservations.len x.reservations.now few in
     let first = c.in-Some.ensures.answer in
@@ -55,7 +55,7 @@ returns-in-Some g c =
         inr (
           z,
           inr (
-            c.in-ok-check-open.ensures,
+            c.in_ok-check_open.ensures,
             inr (
               (w, named),
               inr (
@@ -64,16 +64,16 @@ returns-in-Some g c =
                   omega arith,
                   inr (
                     omega arith,
-                    inl (holds sig M c.args.transaction c.args.right w named p (described c.in-ok-pattern.pattern) read.0 x.reservations.now m.reservations.len few c.in-Some.clash first c.index-memory-clash.result),
+                    inl (holds sig M c.args.transaction c.args.right w named p (described c.in_ok-pattern.pattern) read.0 x.reservations.now m.reservations.len few c.in-Some.clash first c.index-memory-clash.result),
                   ),
                 ),
               ),
             ),
           ),
         ),
-        conflicted sig M c.args.transaction c.args.right w named p (described c.in-ok-pattern.pattern) read.0 x.reservations.now m.reservations.len few c.in-Some.clash first c.index-memory-clash.result b b' refl e,
+        conflicted sig M c.args.transaction c.args.right w named p (described c.in_ok-pattern.pattern) read.0 x.reservations.now m.reservations.len few c.in-Some.clash first c.index-memory-clash.result b b' refl e,
       );
-      blank = c.own-clash.ensures.blank;
+      blank = c.own_clash.ensures.blank;
       well = λ _. sound_tallied sig M b b' (c.requires z) e;
       fixed = record { signature = refl; kind = refl };
       sizes = λ z. z;
@@ -85,19 +85,19 @@ returns g c =
     let x = c.args.memory.now in
     let sig = m.signature.arities in
     let M = g.K.Kind.means m.kind in
-    let z = c.in-ok-check-sizes.ensures in
+    let z = c.in_ok-check_sizes.ensures in
     let zr = z.reservations in
     let s0 = m.some in
     let len = c.len.ensures in
-    let w = right_of c.in-ok-right.right in
-    let named = c.in-ok-right.ensures in
+    let w = right_of c.in_ok-right.right in
+    let named = c.in_ok-right.ensures in
     let p : Description = record { cells = c.args.cells.now; constraints = c.args.constraints.now } in
-    let read = c.in-ok-pattern.ensures in
+    let read = c.in_ok-pattern.ensures in
     let proper : ProperPattern sig M p = subst (ProperPattern sig M) read.0 read.1 in
     let n = m.last_reservation + 1 in
     let lt : m.reservations.len < length x.reservations.now = omega arith in
     let long = length-take-le m.reservations.len x.reservations.now (omega arith) in
-    let new : Reservation = record { number = n; owner = c.args.transaction; right = c.in-ok-right.right; pattern = c.in-ok-pattern.pattern } in
+    let new : Reservation = record { number = n; owner = c.args.transaction; right = c.in_ok-right.right; pattern = c.in_ok-pattern.pattern } in
     let pushed = pushed_there m.reservations.len x.reservations.now c.push.new.self.len c.push.new.memory new c.push.result lt c.push.ensures in
     let b = book_of m x in
     let b' : Book = record {
@@ -123,7 +123,7 @@ returns g c =
         (
           z,
           (
-            c.in-ok-check-open.ensures,
+            c.in_ok-check_open.ensures,
             (
               (w, named),
               (
@@ -132,7 +132,7 @@ returns g c =
                   omega arith,
                   (
                     omega arith,
-                    (clear sig M c.args.transaction c.args.right w named p (described c.in-ok-pattern.pattern) read.0 b.reservations c.in-default.ensures.answer, tt),
+                    (clear sig M c.args.transaction c.args.right w named p (described c.in_ok-pattern.pattern) read.0 b.reservations c.in_default.ensures.answer, tt),
                   ),
                 ),
               ),
@@ -141,7 +141,7 @@ returns g c =
         ),
         (reserved, refl),
       );
-      blank = c.own-clash.ensures.blank;
+      blank = c.own_clash.ensures.blank;
       well = λ _. sound_reserved sig M b b' (c.requires z) c.args.transaction c.args.right n p proper reserved;
       fixed = record { signature = refl; kind = refl };
       sizes = λ z. record { transactions = z.transactions; reservations = c.push.auto.memory ∙ z.reservations; changes = z.changes };

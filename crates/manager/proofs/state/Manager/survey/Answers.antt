@@ -12,7 +12,7 @@ returns-in-Some g c =
     let o = c.in-Some.ensures in
     record {
       answers = (
-        (c.in-ok-check-sizes.ensures, (c.in-ok-check-open.ensures, ((o.0, o.1, o.2), tt))),
+        (c.in_ok-check_sizes.ensures, (c.in_ok-check_open.ensures, ((o.0, o.1, o.2), tt))),
         (
           o.0,
           o.1,

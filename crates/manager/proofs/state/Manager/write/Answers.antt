@@ -10,70 +10,70 @@ use Rattle.ledger.proofs.Rows.{storable}
 use Rattle.manager.proofs.Sounds.{sound_changed, fixed_sound, moved_sound}
 use Rattle.manager.proofs.state.Manager.write.Goals as goal
 
-pub returns-in-err-row : goal.returns-in-err-row
-returns-in-err-row g c =
-    let p = err_from_is_err_and c.from-residual-in-err-row.result c.from-residual-in-err-row.ensures.1 in
+pub returns-in_err-row : goal.returns-in_err-row
+returns-in_err-row g c =
+    let p = err_from_is_err_and c.from-residual-in_err-row.result c.from-residual-in_err-row.ensures.1 in
     rw (p.1, p.2) (record {
-      answers = (inr (c.in-ok-check-sizes.ensures, inr (c.in-ok-check-open.ensures, inl c.in-err-row.ensures)), refl);
+      answers = (inr (c.in_ok-check_sizes.ensures, inr (c.in_ok-check_open.ensures, inl c.in_err-row.ensures)), refl);
       blank = refl;
       well = c.requires;
       fixed = record { signature = refl; kind = refl };
       sizes = λ z. z;
     })
 
-pub returns-then-not-is-covered : goal.returns-then-not-is-covered
-returns-then-not-is-covered g c =
+pub returns-then-not-is_covered : goal.returns-then-not-is_covered
+returns-then-not-is_covered g c =
     let m = c.args.self.now in
     let sig = m.signature.arities in
     let M = g.K.Kind.means m.kind in
     let b = book_of m c.args.memory.now in
-    let read = c.in-ok-row.ensures in
+    let read = c.in_ok-row.ensures in
     let few = c.in-Some.count.few in
     let same = c.in-Some.ensures in
     let small : c.args.count ≤ 999999 = omega arith in
     record {
       answers = (
         inr (
-          c.in-ok-check-sizes.ensures,
+          c.in_ok-check_sizes.ensures,
           inr (
-            c.in-ok-check-open.ensures,
+            c.in_ok-check_open.ensures,
             inr (
               read.1,
               inr (
                 small,
-                inl (refl, λ x. c.if-not-is-covered.ensures.answer (subst (λ q. Covered sig M c.args.transaction q true b.reservations) (sym read.0) x)),
+                inl (refl, λ x. c.if-not-is_covered.ensures.answer (subst (λ q. Covered sig M c.args.transaction q true b.reservations) (sym read.0) x)),
               ),
             ),
           ),
         ),
         refl,
       );
-      blank = c.is-covered.ensures.blank;
+      blank = c.is_covered.ensures.blank;
       well = c.requires;
       fixed = record { signature = refl; kind = refl };
       sizes = λ z. z;
     }
 
-pub key-of-key-requires : goal.key-of-key-requires
-key-of-key-requires g c =
+pub key_of-key-requires : goal.key_of-key-requires
+key_of-key-requires g c =
     let m = c.args.self.now in
     let sig = m.signature.arities in
     let M = g.K.Kind.means m.kind in
-    let read = c.in-ok-row.ensures in
-    storable sig M (cells_of c.in-ok-row.row) (g.met.K.Kind.sound m.kind) (subst (RowCells sig M) (sym read.0) read.1)
+    let read = c.in_ok-row.ensures in
+    storable sig M (cells_of c.in_ok-row.row) (g.met.K.Kind.sound m.kind) (subst (RowCells sig M) (sym read.0) read.1)
 
-pub returns-then-not-set-change : goal.returns-then-not-set-change
-returns-then-not-set-change g c =
+pub returns-then-not-set_change : goal.returns-then-not-set_change
+returns-then-not-set_change g c =
     let m = c.args.self.now in
     let x = c.args.memory.now in
     let sig = m.signature.arities in
     let M = g.K.Kind.means m.kind in
     let b = book_of m x in
-    let read = c.in-ok-row.ensures in
-    let key = c.key-of-key.ensures ∙ read.0 in
-    let no = c.if-not-set-change.ensures.answer in
-    let f : Fixed m c.set-change.new.self = record { signature = c.set-change.ensures.fixed.signature; kind = c.set-change.ensures.fixed.kind } in
-    let z = c.in-ok-check-sizes.ensures in
+    let read = c.in_ok-row.ensures in
+    let key = c.key_of-key.ensures ∙ read.0 in
+    let no = c.if-not-set_change.ensures.answer in
+    let f : Fixed m c.set_change.new.self = record { signature = c.set_change.ensures.fixed.signature; kind = c.set_change.ensures.fixed.kind } in
+    let z = c.in_ok-check_sizes.ensures in
     let few = c.in-Some.count.few in
     let same = c.in-Some.ensures in
     let small : c.args.count ≤ 999999 = omega arith in
@@ -82,13 +82,13 @@ returns-then-not-set-change g c =
         inr (
           z,
           inr (
-            c.in-ok-check-open.ensures,
+            c.in_ok-check_open.ensures,
             inr (
               read.1,
               inr (
                 small,
                 inr (
-                  subst (λ q. Covered sig M c.args.transaction q true b.reservations) read.0 c.if-not-is-covered.ensures.answer,
+                  subst (λ q. Covered sig M c.args.transaction q true b.reservations) read.0 c.if-not-is_covered.ensures.answer,
                   inl (refl, λ h. no.0 (subst (λ q. HasPlace c.args.transaction q b) (sym key) h)),
                 ),
               ),
@@ -97,10 +97,10 @@ returns-then-not-set-change g c =
         ),
         no.1,
       );
-      blank = c.is-covered.ensures.blank;
-      well = λ _. moved_sound g.K.Kind.means m c.set-change.new.self x c.set-change.new.memory f no.1 (c.requires z);
+      blank = c.is_covered.ensures.blank;
+      well = λ _. moved_sound g.K.Kind.means m c.set_change.new.self x c.set_change.new.memory f no.1 (c.requires z);
       fixed = record { signature = f.signature; kind = f.kind };
-      sizes = c.set-change.ensures.sizes;
+      sizes = c.set_change.ensures.sizes;
     }
 
 pub returns : goal.returns
@@ -110,12 +110,12 @@ returns g c =
     let sig = m.signature.arities in
     let M = g.K.Kind.means m.kind in
     let b = book_of m x in
-    let b' = book_of c.set-change.new.self c.set-change.new.memory in
-    let read = c.in-ok-row.ensures in
-    let key = c.key-of-key.ensures ∙ read.0 in
-    let yes = c.if-not-set-change.ensures.answer in
-    let f : Fixed m c.set-change.new.self = record { signature = c.set-change.ensures.fixed.signature; kind = c.set-change.ensures.fixed.kind } in
-    let z = c.in-ok-check-sizes.ensures in
+    let b' = book_of c.set_change.new.self c.set_change.new.memory in
+    let read = c.in_ok-row.ensures in
+    let key = c.key_of-key.ensures ∙ read.0 in
+    let yes = c.if-not-set_change.ensures.answer in
+    let f : Fixed m c.set_change.new.self = record { signature = c.set_change.ensures.fixed.signature; kind = c.set_change.ensures.fixed.kind } in
+    let z = c.in_ok-check_sizes.ensures in
     let few = c.in-Some.count.few in
     let same = c.in-Some.ensures in
     let small : c.args.count ≤ 999999 = omega arith in
@@ -126,13 +126,13 @@ returns g c =
         (
           z,
           (
-            c.in-ok-check-open.ensures,
+            c.in_ok-check_open.ensures,
             (
               read.1,
               (
                 small,
                 (
-                  subst (λ q. Covered sig M c.args.transaction q true b.reservations) read.0 c.if-not-is-covered.ensures.answer,
+                  subst (λ q. Covered sig M c.args.transaction q true b.reservations) read.0 c.if-not-is_covered.ensures.answer,
                   (subst (λ q. HasPlace c.args.transaction q b) key yes.0, tt),
                 ),
               ),
@@ -141,8 +141,8 @@ returns g c =
         ),
         changed,
       );
-      blank = c.is-covered.ensures.blank;
-      well = λ _. fixed_sound g.K.Kind.means m c.set-change.new.self b' f (sound_changed sig M b b' (c.requires z) c.args.transaction c.args.cells.now (written c.args.count) read.1 changed);
+      blank = c.is_covered.ensures.blank;
+      well = λ _. fixed_sound g.K.Kind.means m c.set_change.new.self b' f (sound_changed sig M b b' (c.requires z) c.args.transaction c.args.cells.now (written c.args.count) read.1 changed);
       fixed = record { signature = f.signature; kind = f.kind };
-      sizes = c.set-change.ensures.sizes;
+      sizes = c.set_change.ensures.sizes;
     }

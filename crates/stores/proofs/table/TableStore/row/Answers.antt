@@ -8,6 +8,6 @@ returns c =
     let t = c.args.self.now in
     let hs = held (contents t.records.now) in
     record {
-      row = row_rows hs c.args.k c.used-row.result c.used-row.ensures;
-      count = row_look hs t.apart c.args.k c.used-row.result c.used-row.ensures;
+      row = row_rows hs c.args.k c.used_row.result c.used_row.ensures;
+      count = row_look hs t.apart c.args.k c.used_row.result c.used_row.ensures;
     }

@@ -7,4 +7,4 @@ use Rattle.stores.proofs.table.TableStore.size.Goals as goal
 pub returns : goal.returns
 returns c =
     let ps = contents c.args.self.now.records.now in
-    record { places = refl; rows = c.used-places.ensures ∙ sym (rows_length (held ps) ∙ held_length ps) }
+    record { places = refl; rows = c.used_places.ensures ∙ sym (rows_length (held ps) ∙ held_length ps) }

@@ -11,15 +11,15 @@ use Rattle.terms.proofs.pattern.Pattern.read.Goals as goal
 same_parts : (cs ds : List Cell) (ks js : List Constraint) → cs ≡ ds → ks ≡ js → ◌≡◌ {A = Description} (record { cells = cs; constraints = ks }) (record { cells = ds; constraints = js })
 same_parts cs ds ks js p q = cc
 
-pub returns-in-err-check-cells : goal.returns-in-err-check-cells
-returns-in-err-check-cells g c =
+pub returns-in_err-check_cells : goal.returns-in_err-check_cells
+returns-in_err-check_cells g c =
     let p = err_from_is_err_and c.from-residual.result c.from-residual.ensures.1 in
-    rw (p.1, p.2) (inl c.in-err-check-cells.ensures)
+    rw (p.1, p.2) (inl c.in_err-check_cells.ensures)
 
-pub returns-in-err-check-constraints : goal.returns-in-err-check-constraints
-returns-in-err-check-constraints g c =
-    let p = err_from_is_err_and c.from-residual-in-err-check-constraints.result c.from-residual-in-err-check-constraints.ensures.1 in
-    rw (p.1, p.2) (inr (c.in-ok-check-cells.ensures, c.in-err-check-constraints.ensures))
+pub returns-in_err-check_constraints : goal.returns-in_err-check_constraints
+returns-in_err-check_constraints g c =
+    let p = err_from_is_err_and c.from-residual-in_err-check_constraints.result c.from-residual-in_err-check_constraints.ensures.1 in
+    rw (p.1, p.2) (inr (c.in_ok-check_cells.ensures, c.in_err-check_constraints.ensures))
 
 pub returns : goal.returns
 returns g c =
@@ -30,5 +30,5 @@ returns g c =
     let same = same_parts (take (length cs) c.filled.result) cs (take (length ks) c.filled-2.result) ks front back in (
       same,
       subst (ProperPattern c.args.signature.now.arities (g.K.Kind.means c.args.kind.now)) (sym same)
-          (record { cells = c.in-ok-check-cells.ensures; constraints = c.in-ok-check-constraints.ensures }),
+          (record { cells = c.in_ok-check_cells.ensures; constraints = c.in_ok-check_constraints.ensures }),
     )
