@@ -12,7 +12,7 @@ back part n h s = sym (ap (λ t. number_from_digits 10 (map worth t)) s ∙ read
 
 pub returns-in_err-n : goal.returns-in_err-n
 returns-in_err-n c =
-    rw c.from-residual.ensures
+    rw c.from_residual.ensures
     (λ n h s. let e = back c.args.part.now n h s in let l = c.in_err-n.ensures in omega arith)
 
 pub returns-else-shows : goal.returns-else-shows

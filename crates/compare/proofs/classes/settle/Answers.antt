@@ -13,7 +13,7 @@ returns-in_err-value g c =
     let cells = c.args.cells.now in
     let rs = c.args.roots.now in
     let ks = c.args.constraints.now in
-    subst (λ (o : Option (List Cell)). MatchOption o (Unmet M cells rs ks) (λ fills. Settled M cells rs ks fills (length ks))) (sym c.from-residual.ensures)
+    subst (λ (o : Option (List Cell)). MatchOption o (Unmet M cells rs ks) (λ fills. Settled M cells rs ks fills (length ks))) (sym c.from_residual.ensures)
     (fails_class M cells rs ks c.loop-constraint.constraint-index c.in-Variable.y (take (c.gather-class.result.count - 0) c.gather-class.result.conditions)
     c.loop-constraint-test.true c.in-Variable.is (from_start c.gather-class.result.conditions c.gather-class.result.count ∙ c.gather-class.ensures.all) c.in_err-value.ensures)
 

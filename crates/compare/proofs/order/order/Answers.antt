@@ -24,7 +24,7 @@ loop-to_place-init c =
 
 pub returns-in_err-leaf : goal.returns-in_err-leaf
 returns-in_err-leaf c =
-    rw c.from-residual.ensures
+    rw c.from_residual.ensures
     (unsolved c.args.signature.now.arities c.args.cells.now c.args.sheet.now c.loop-to_place.wait c.requires.good c.requires.straight c.loop-to_place.invariant.4.within c.in_err-leaf.ensures (omega arith))
 
 pub loop-to_place-preserved : goal.loop-to_place-preserved

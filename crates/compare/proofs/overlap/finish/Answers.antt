@@ -7,11 +7,11 @@ use Rattle.compare.proofs.Drawing.{shows, drawn}
 use Rattle.compare.proofs.overlap.finish.Goals as goal
 
 pub returns-in_err-bindings : goal.returns-in_err-bindings
-returns-in_err-bindings g c = rw c.from-residual.ensures (λ σ a s m. c.in_err-bindings.ensures σ a s)
+returns-in_err-bindings g c = rw c.from_residual.ensures (λ σ a s m. c.in_err-bindings.ensures σ a s)
 
 pub returns-in_err-fills : goal.returns-in_err-fills
 returns-in_err-fills g c =
-    rw c.from-residual-in_err-fills.ensures
+    rw c.from_residual-in_err-fills.ensures
     (λ σ a s m. unmet (g.K.Kind.means c.args.kind.now) c.args.cells.now c.roots_of-roots.result c.args.constraints.now c.args.signature.now.arities c.args.sheet.now
     c.requires.good c.requires.named c.roots_of-roots.ensures c.in_err-fills.ensures σ s m)
 

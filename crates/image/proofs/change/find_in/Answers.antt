@@ -10,7 +10,7 @@ use Rattle.image.proofs.change.find_in.Goals as goal
 
 pub returns-in_err-k : goal.returns-in_err-k
 returns-in_err-k c =
-    rw c.from-residual.ensures (sym (none_find (entries c.args.image.now) (cells_of c.args.key.now) c.in_err-k.ensures))
+    rw c.from_residual.ensures (sym (none_find (entries c.args.image.now) (cells_of c.args.key.now) c.in_err-k.ensures))
 
 pub returns-in_err-value : goal.returns-in_err-value
 returns-in_err-value c =

@@ -16,7 +16,7 @@ has-row s cs ds k w scan e key =
 pub returns-in_err-key : goal.returns-in_err-key
 returns-in_err-key c =
     let s = c.args.line.now in
-    rw c.from-residual.ensures
+    rw c.from_residual.ensures
     (none_from (meaning s) c.as_slice.result.now c.requires.shows.good (scanned_cells s _ c.requires.shows c.read_cells-found.ensures ∙ sym c.as_slice.ensures) c.in_err-key.ensures)
 
 pub returns-in_err-value : goal.returns-in_err-value

@@ -13,7 +13,7 @@ loop-k-preserved g c =
 
 pub returns-in_err-check_line : goal.returns-in_err-check_line
 returns-in_err-check_line g c =
-    let p = err_from_is_err_and c.from-residual.result c.from-residual.ensures.1 in
+    let p = err_from_is_err_and c.from_residual.result c.from_residual.ensures.1 in
     rw (p.1, p.2) (record { at = c.loop-k.k; within = c.loop-k-test.true; before = c.loop-k.invariant; here = c.in_err-check_line.ensures })
 
 pub returns : goal.returns

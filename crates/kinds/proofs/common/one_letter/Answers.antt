@@ -10,7 +10,7 @@ blank = record { form = 0; a = 0; b = 0 }
 
 pub returns-in_err-letter : goal.returns-in_err-letter
 returns-in_err-letter g c =
-    rw c.from-residual.ensures (λ l m. false≢true (ap is_some (c.in_err-letter.ensures ∙ m.0)))
+    rw c.from_residual.ensures (λ l m. false≢true (ap is_some (c.in_err-letter.ensures ∙ m.0)))
 
 pub returns-in_default : goal.returns-in_default
 returns-in_default g c =
@@ -18,8 +18,8 @@ returns-in_default g c =
     c.loop-condition-test.true c.in_ok-letter.letter c.in-Some.other c.in_ok-letter.ensures
     c.in-Some.ensures c.if-other-letter.false
 
-pub returns-in_default·2 : goal.returns-in_default·2
-returns-in_default·2 g c =
+pub returns-in_default-2 : goal.returns-in_default-2
+returns-in_default-2 g c =
     letter_none (g.K.Kind.means c.args.kind.now) c.args.first c.args.rest.now c.loop-condition.condition-index blank
     c.loop-condition-test.true c.in_default.ensures
 

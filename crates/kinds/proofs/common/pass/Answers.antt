@@ -5,7 +5,7 @@ use Rattle.kinds.proofs.common.pass.Goals as goal
 
 pub returns-in_err-low : goal.returns-in_err-low
 returns-in_err-low g c =
-    rw c.from-residual.ensures
+    rw c.from_residual.ensures
     (leap_none (g.K.Kind.means c.args.kind.now) c.args.conditions.now c.loop-condition.condition-index _
     c.loop-condition-test.true c.args.v c.loop-condition.low c.loop-condition.invariant.1 c.in_err-low.ensures)
 

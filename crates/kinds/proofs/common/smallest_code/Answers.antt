@@ -5,12 +5,12 @@ use Rattle.kinds.proofs.common.smallest_code.Goals as goal
 
 pub returns-in_err-start : goal.returns-in_err-start
 returns-in_err-start g c =
-    rw c.from-residual.ensures
+    rw c.from_residual.ensures
     (λ k _ m. ⊎_elim (λ b. c.rise.invariant k b m) (λ b. c.in_err-start.ensures k b m.0) (cases_lt k c.rise.v))
 
 pub returns-in_err-low : goal.returns-in_err-low
 returns-in_err-low g c =
-    rw c.from-residual-in_err-low.ensures
+    rw c.from_residual-in_err-low.ensures
     (λ k _ m. ⊎_elim (λ b. c.rise.invariant k b m)
     (λ b. round_none (g.K.Kind.means c.args.kind.now) c.args.first c.args.rest.now c.rise.v c.in_ok-start.start
     c.in_ok-start.ensures c.in_err-low.ensures k b m)

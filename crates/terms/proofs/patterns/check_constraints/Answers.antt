@@ -16,7 +16,7 @@ returns-then-place-ge-MOST g c =
 
 pub returns-in_err-check_condition : goal.returns-in_err-check_condition
 returns-in_err-check_condition g c =
-    let p = err_from_is_err_and c.from-residual.result c.from-residual.ensures.1 in
+    let p = err_from_is_err_and c.from_residual.result c.from_residual.ensures.1 in
     let q = c.in_err-check_condition.ensures in
     rw (p.1, p.2, q.0)
     (condition_refused (g.K.Kind.means c.args.kind.now) c.args.constraints.now c.loop-place.place _ c.loop-place-test.true c.loop-place.invariant

@@ -23,7 +23,7 @@ scan_cell-requires g c = (search rules, at_most c.args.shape c.loop-place.invari
 
 pub returns-in_err-to_come : goal.returns-in_err-to_come
 returns-in_err-to_come g c =
-    let p = err_from_is_err_and c.from-residual.result c.from-residual.ensures.1 in
+    let p = err_from_is_err_and c.from_residual.result c.from_residual.ensures.1 in
     rw (p.1, p.2)
     (refused_here c.args.signature.now.arities c.args.signature.now.nought (g.K.Kind.means c.args.kind.now) (variables c.args.shape) (limit c.args.shape)
     c.args.cells.now c.loop-place.place c.loop-place.to_come c.loop-place.invariant _ c.loop-place-test.true c.in_err-to_come.field-0.0 c.in_err-to_come.ensures)

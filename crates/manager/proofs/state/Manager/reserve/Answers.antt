@@ -13,7 +13,7 @@ use Rattle.manager.proofs.state.Manager.reserve.Goals as goal
 
 pub returns-in_err-pattern : goal.returns-in_err-pattern
 returns-in_err-pattern g c =
-    let p = err_from_is_err_and c.from-residual-in_err-pattern.result c.from-residual-in_err-pattern.ensures.1 in
+    let p = err_from_is_err_and c.from_residual-in_err-pattern.result c.from_residual-in_err-pattern.ensures.1 in
     rw (p.1, p.2) (record {
       answers = (inr (c.in_ok-check_sizes.ensures, inr (c.in_ok-check_open.ensures, inr ((right_of c.in_ok-right.right, c.in_ok-right.ensures), inl (c.in_err-pattern.field-0.0, refl, c.in_err-pattern.ensures)))), (refl, refl));
       blank = refl;

@@ -12,7 +12,7 @@ use Rattle.manager.proofs.state.Manager.write.Goals as goal
 
 pub returns-in_err-row : goal.returns-in_err-row
 returns-in_err-row g c =
-    let p = err_from_is_err_and c.from-residual-in_err-row.result c.from-residual-in_err-row.ensures.1 in
+    let p = err_from_is_err_and c.from_residual-in_err-row.result c.from_residual-in_err-row.ensures.1 in
     rw (p.1, p.2) (record {
       answers = (inr (c.in_ok-check_sizes.ensures, inr (c.in_ok-check_open.ensures, inl c.in_err-row.ensures)), refl);
       blank = refl;

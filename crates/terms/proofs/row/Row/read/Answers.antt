@@ -5,7 +5,7 @@ use Rattle.terms.proofs.row.Row.read.Goals as goal
 
 pub returns-in_err-check_cells : goal.returns-in_err-check_cells
 returns-in_err-check_cells g c =
-    let p = err_from_is_err_and c.from-residual.result c.from-residual.ensures.1 in
+    let p = err_from_is_err_and c.from_residual.result c.from_residual.ensures.1 in
     rw (p.1, p.2) c.in_err-check_cells.ensures
 
 pub returns : goal.returns
