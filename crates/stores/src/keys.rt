@@ -1,7 +1,10 @@
 // Keys and counts from what a caller has.
 ghost use Rattle.std.specs.Prelude.{◌≡◌, ◌<◌, Decides, MatchOption};
 ghost use Rattle.stores.specs.Rows.{cells_of, Storable};
+ghost use Rattle.std.specs.Cmp.{on_per, partial_equiv_from_equiv};
+ghost use Rattle.std.specs.Cmp.Lexicographic.{lists_per};
 ghost use Rattle.std.specs.Cmp.Rules.{comparing};
+ghost use Rattle.terms.specs.Same.{same_cells};
 ghost use Rattle.std.proofs.Common.{rules, arith};
 
 use crate::count::Count;
@@ -51,11 +54,14 @@ impl Key {
 
 // Keys are equal where their cells are.
 impl PartialEq for Key {
-    ghost equals = { λ a b r. Decides r (cells_of a ≡ cells_of b) };
+    ghost eq = { λ a b. same_cells (cells_of a) (cells_of b) };
 
-    ghost laws = { first_of (Prim.search (comparing, rules), Prim.grind (arith, Self.row.coded.inj)) };
+    ghost laws = { on_per cells_of (lists_per (partial_equiv_from_equiv (Prim.search (comparing, rules)))) };
 
-    fn eq(&self, other: &Key) -> bool {
+    fn eq(&self, other: &Key) -> bool
+        ensures value { result ≡ same_cells (cells_of self.now) (cells_of other.now) }
+        ensures decides { Decides result (cells_of self.now ≡ cells_of other.now) }
+    {
         self.cells() == other.cells()
     }
 }

@@ -1,3 +1,4 @@
 pub mod Leaving
 mod Scans
 mod Firsts
+pub mod Same

@@ -2,8 +2,11 @@
 ghost use Rattle.std.specs.Prelude.{◌≡◌, Decides};
 ghost use Rattle.terms.specs.Fitting.{cells_of};
 ghost use Rattle.terms.specs.Reading.{RowRead};
+ghost use Rattle.terms.specs.Same.{same_cells};
+ghost use Rattle.std.specs.Cmp.{on_per, partial_equiv_from_equiv};
+ghost use Rattle.std.specs.Cmp.Lexicographic.{lists_per};
 ghost use Rattle.std.specs.Cmp.Rules.{comparing};
-ghost use Rattle.std.proofs.Common.{rules, arith};
+ghost use Rattle.std.proofs.Common.{rules};
 
 use crate::cell::{BLANK, Cell};
 use crate::fault::PatternFault;
@@ -39,11 +42,14 @@ impl Row {
 
 // Rows are equal where their cells are.
 impl PartialEq for Row {
-    ghost equals = { λ a b r. Decides r (cells_of a ≡ cells_of b) };
+    ghost eq = { λ a b. same_cells (cells_of a) (cells_of b) };
 
-    ghost laws = { first_of (Prim.search (comparing, rules), Prim.grind (arith, Self.row.coded.inj)) };
+    ghost laws = { on_per cells_of (lists_per (partial_equiv_from_equiv (Prim.search (comparing, rules)))) };
 
-    fn eq(&self, other: &Row) -> bool {
+    fn eq(&self, other: &Row) -> bool
+        ensures value { result ≡ same_cells (cells_of self.now) (cells_of other.now) }
+        ensures decides { Decides result (cells_of self.now ≡ cells_of other.now) }
+    {
         self.cells() == other.cells()
     }
 }
