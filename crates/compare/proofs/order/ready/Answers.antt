@@ -6,8 +6,8 @@ use Rattle.unification.proofs.Lines.{lacks_more, has_more, has_here, lacks_none}
 use Rattle.compare.proofs.order.ready.Goals as goal
 use Rattle.compare.proofs.order.ready.Goals.{else-c-eq86-via-then-c-eq86+else-wait-c, else-c-eq86-via-else-c-eq86}
 
-pub offset-bounds-cells-at : goal.offset-bounds-cells-at
-offset-bounds-cells-at c =
+pub offset_bounds-cells-at : goal.offset_bounds-cells-at
+offset_bounds-cells-at c =
     let s = step c.args.signature.now.arities c.args.cells.now c.loop-left.at c.loop-left.left c.loop-left.invariant.0 c.loop-left-test.true in
     omega (arith, s.within, c.requires.good.few)
 
@@ -30,13 +30,13 @@ returns-then-wait-c c =
       c.loop-left.invariant.2 _ (has_here c.args.signature.now.arities c.args.cells.now c.loop-left.at c.loop-left.left c.loop-left.invariant.0 c.loop-left-test.true c.if-c-eq86.true),
     )
 
-pub overflow-add-left : goal.overflow-add-left
-overflow-add-left c =
+pub overflow_add-left : goal.overflow_add-left
+overflow_add-left c =
     let s = step c.args.signature.now.arities c.args.cells.now c.loop-left.at c.loop-left.left c.loop-left.invariant.0 c.loop-left-test.true in
     omega (arith, s.few, c.arity.ensures.value, c.requires.good.few)
 
-pub overflow-add-at : goal.overflow-add-at
-overflow-add-at c =
+pub overflow_add-at : goal.overflow_add-at
+overflow_add-at c =
     let s = step c.args.signature.now.arities c.args.cells.now c.loop-left.at c.loop-left.left c.loop-left.invariant.0 c.loop-left-test.true in
     omega (arith, s.within, c.requires.good.few)
 

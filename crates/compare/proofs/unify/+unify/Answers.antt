@@ -57,8 +57,8 @@ unify-requires t c =
       ),
     )
 
-pub overflow-add-n : goal.overflow-add-n
-overflow-add-n t c =
+pub overflow_add-n : goal.overflow_add-n
+overflow_add-n t c =
     let s = step c.args.signature.now.arities c.args.cells.now c.args.i c.args.n c.requires.left (omega arith) in
     let e : c.arity-k.result ≡ arity c.args.signature.now.arities (at c.args.cells.now c.args.i) =
     c.arity-k.ensures.value ∙ ap (λ (k : ℕ). arity c.args.signature.now.arities (at c.args.cells.now k)) c.if-p-i.true in

@@ -7,8 +7,8 @@ use Rattle.compare.proofs.walk.skip.Goals as goal
 pub bounds-cells-at : goal.bounds-cells-at
 bounds-cells-at c = (step _ _ _ _ c.loop-left.invariant.3 c.loop-left-test.true).within
 
-pub overflow-add-left : goal.overflow-add-left
-overflow-add-left c =
+pub overflow_add-left : goal.overflow_add-left
+overflow_add-left c =
     let s = step c.args.signature.now.arities c.args.cells.now c.loop-left.at c.loop-left.left c.loop-left.invariant.3 c.loop-left-test.true in
     omega (arith, s.few, c.arity.ensures.value, c.requires.good.few)
 

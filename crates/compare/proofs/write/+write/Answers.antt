@@ -35,8 +35,8 @@ deref-p-requires t c = record {
   within = (step c.args.signature.now.arities c.args.cells.now c.args.i c.args.n c.requires.here (omega arith)).within;
 }
 
-pub overflow-add-i : goal.overflow-add-i
-overflow-add-i t c =
+pub overflow_add-i : goal.overflow_add-i
+overflow_add-i t c =
     let s = step c.args.signature.now.arities c.args.cells.now c.args.i c.args.n c.requires.here (omega arith) in
     omega (arith, s.within, c.requires.good.few)
 
@@ -76,8 +76,8 @@ returns-then-c-eq86 t c =
           (c.write.ensures.cells σ a s f));
     }
 
-pub overflow-add-n : goal.overflow-add-n
-overflow-add-n t c =
+pub overflow_add-n : goal.overflow_add-n
+overflow_add-n t c =
     let s = step c.args.signature.now.arities c.args.cells.now c.args.i c.args.n c.requires.here (omega arith) in
     let e : c.arity-k.result ≡ arity c.args.signature.now.arities (at c.args.cells.now c.args.i) =
     c.arity-k.ensures.value ∙ ap (λ (k : ℕ). arity c.args.signature.now.arities (at c.args.cells.now k)) c.if-p-i.true in
@@ -155,8 +155,8 @@ returns-then-m-gt12 t c =
           (w σ a s f) c.if-m-gt12.true c.requires.long.2 c.requires.long.3);
     }
 
-pub overflow-add-i-2 : goal.overflow-add-i-2
-overflow-add-i-2 t c =
+pub overflow_add-i-2 : goal.overflow_add-i-2
+overflow_add-i-2 t c =
     let s = step c.args.signature.now.arities c.args.cells.now c.args.i c.args.n c.requires.here (omega arith) in
     omega (arith, s.within, c.requires.good.few)
 

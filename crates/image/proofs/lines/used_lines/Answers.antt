@@ -9,8 +9,8 @@ use Rattle.image.proofs.Meanings.{line_part, line_length, head_is, free_from, ta
 use Rattle.image.proofs.lines.used_lines.Goals as goal
 use Rattle.image.proofs.lines.used_lines.Goals.{then-not-is_blank, else-not-is_blank}
 
-pub overflow-add-n : goal.overflow-add-n
-overflow-add-n c =
+pub overflow_add-n : goal.overflow_add-n
+overflow_add-n c =
     let xs = c.args.image.now in
     let l = entries_length xs in
     let t : length (take c.loop-k.k (entries xs)) ≡ c.loop-k.k = length-take-le c.loop-k.k (entries xs) (omega arith) in

@@ -10,8 +10,8 @@ use Rattle.image.proofs.Meanings.{line_is, line_part}
 use Rattle.image.proofs.Opening.{good_none, good_some, again}
 use Rattle.image.proofs.open.check_line.Goals as goal
 
-pub overflow-add-result : goal.overflow-add-result
-overflow-add-result g c = let l = bad_within (RowCells c.args.signature.now.arities (g.K.Kind.means c.args.kind.now)) _ c.in-Err.field c.in-Err.ensures in omega arith
+pub overflow_add-result : goal.overflow_add-result
+overflow_add-result g c = let l = bad_within (RowCells c.args.signature.now.arities (g.K.Kind.means c.args.kind.now)) _ c.in-Err.field c.in-Err.ensures in omega arith
 
 pub returns-in-Err : goal.returns-in-Err
 returns-in-Err g c =

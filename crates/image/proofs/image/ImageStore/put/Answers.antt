@@ -6,8 +6,8 @@ use Rattle.image.proofs.image.ImageStore.put.Goals as goal
 pub put-requires : goal.put-requires
 put-requires c = let t = c.args.self.now in sound_tested t.lines.bytes.now t.whole t.some t.few t.shown t.apart
 
-pub invariant-of-self : goal.invariant-of-self
-invariant-of-self c =
+pub invariant_of-self : goal.invariant_of-self
+invariant_of-self c =
     let ys = c.put.new.self.bytes.now in
     let s = c.put.ensures.sound in
     (s.whole, (s.allowed.0, (s.allowed.1, (tested_shows (lines_in ys) ys s.shows, (s.apart, tt)))))

@@ -2,8 +2,8 @@ use Rattle.image.specs.Meaning.{lines_in}
 use Rattle.image.specs.Tested.{tested_shows}
 use Rattle.image.proofs.memory.Lines.into_store.Goals as goal
 
-pub invariant-of-result : goal.invariant-of-result
-invariant-of-result c =
+pub invariant_of-result : goal.invariant_of-result
+invariant_of-result c =
     let xs = c.args.self.bytes.now in
     let s = c.requires in
     (s.whole, (s.allowed.0, (s.allowed.1, (tested_shows (lines_in xs) xs s.shows, (s.apart, tt)))))

@@ -4,8 +4,8 @@ use Rattle.manager.specs.Ending.{ended}
 use Rattle.manager.proofs.Sounds.{fixed_sound, sound_ended}
 use Rattle.manager.proofs.state.Manager.commit.Goals as goal
 
-pub invariant-of-self : goal.invariant-of-self
-invariant-of-self g c =
+pub invariant_of-self : goal.invariant_of-self
+invariant_of-self g c =
     let m = c.args.self.now in
     let m' = c.end.new.self in
     let e0 = m.ended in

@@ -5,8 +5,8 @@ use Rattle.ledger.specs.declared.entry.PendingChange.{PendingChange}
 use Rattle.manager.proofs.state.Manager.count_changes.Goals as goal
 
 -- there are at most 128
-pub overflow-cast-result : goal.overflow-cast-result
-overflow-cast-result g c =
+pub overflow_cast-result : goal.overflow_cast-result
+overflow_cast-result g c =
     let n = c.args.self.now.changes.len in
     let xs = c.args.memory.now.changes.now in
     let z = c.requires.changes in

@@ -11,8 +11,8 @@ use Rattle.stores.proofs.table.TableStore.put.Goals as goal
 abbrev new : Key → Count → Entry
 new k n = record { key = k; count = n }
 
-pub invariant-of-self : goal.invariant-of-self
-invariant-of-self c =
+pub invariant_of-self : goal.invariant_of-self
+invariant_of-self c =
     let t = c.args.self.now in
     let rs = t.records.now in
     let e = new c.args.key.now c.args.count in
@@ -21,8 +21,8 @@ invariant-of-self c =
     let some = t.some in
     (replace_apart rs t.apart e c.in-Some.k c.in-Some.ensures.1, (omega arith, (omega arith, tt)))
 
-pub invariant-of-self-in-Some-free : goal.invariant-of-self-in-Some-free
-invariant-of-self-in-Some-free c =
+pub invariant_of-self-in-Some-free : goal.invariant_of-self-in-Some-free
+invariant_of-self-in-Some-free c =
     let t = c.args.self.now in
     let rs = t.records.now in
     let e = new c.args.key.now c.args.count in

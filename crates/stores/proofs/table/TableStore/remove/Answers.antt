@@ -5,8 +5,8 @@ use Rattle.stores.specs.Rows.{cells_of}
 use Rattle.stores.proofs.Changes.{drop_apart, dropped, not_dropped}
 use Rattle.stores.proofs.table.TableStore.remove.Goals as goal
 
-pub invariant-of-self : goal.invariant-of-self
-invariant-of-self c =
+pub invariant_of-self : goal.invariant_of-self
+invariant_of-self c =
     let t = c.args.self.now in
     let rs = t.records.now in
     let long = length-set rs c.in-Some.k Free in
