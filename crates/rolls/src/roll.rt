@@ -51,7 +51,7 @@ impl Roll {
     // Whether an entry has this owner.
     pub fn has<E: Owned>(&self, memory: &[E], owner: u32) -> bool
         requires { self.now.len ≤ length memory.now }
-        ensures { Decides result (Has owned owner (take self.now.len memory.now)) }
+        ensures { Decides result (Has E.Owned.owned owner (take self.now.len memory.now)) }
     {
         let entries = self.entries(memory);
         for e in entries {
@@ -65,7 +65,7 @@ impl Roll {
     // How many entries have this owner.
     pub fn count<E: Owned>(&self, memory: &[E], owner: u32) -> usize
         requires { self.now.len ≤ length memory.now }
-        ensures { result ≡ count_by (λ e. nat_eq (owned e) owner) (take self.now.len memory.now) }
+        ensures { result ≡ count_by (λ e. nat_eq (E.Owned.owned e) owner) (take self.now.len memory.now) }
     {
         let mut number = 0;
         let entries = self.entries(memory);
@@ -81,7 +81,7 @@ impl Roll {
     pub fn remove<E: Owned + Copy>(&mut self, memory: &mut [E], owner: u32)
         requires { self.old.len ≤ length memory.old }
         ensures shorter { self.new.len ≤ self.old.len }
-        ensures kept { take self.new.len memory.new ≡ without owned owner (take self.old.len memory.old) }
+        ensures kept { take self.new.len memory.new ≡ without E.Owned.owned owner (take self.old.len memory.old) }
     {
         let n = self.len;
         let mut k = 0;

@@ -1,6 +1,7 @@
 -- The manager by its rolls, in order of arrival: when it grants a call with an answer, and what it then holds.
 use Rattle.std.specs.Prelude.{◌≡◌, ℕ, suc, not, List, [], ◌∷◌, ◌++◌, Some, None, filter, Option, ◌==◌}
-use Rattle.std.proofs.Math.Logic.{ite, Dec·and}
+use Rattle.std.proofs.Math.Logic.{ite}
+use Rattle.std.proofs.Math.Logic.Dec
 use Rattle.std.proofs.Math.Decide.{ℕ_discrete}
 use Rattle.maps.specs.Maps.{Map, Same, In, Figures}
 use Rattle.serial.specs.Language.{Language}
@@ -44,7 +45,7 @@ effect None c = c
 module _ {Row : Type 0} (same : (r s : Row) → Dec (r ≡ s)) where
   -- whether the change is t's for the row
   abbrev pub is_for : (t : ℕ) (r : Row) (c : Pending Row) → Dec ((c.owner ≡ t) × (c.row ≡ r))
-  is_for t r c = Dec·and (ℕ_discrete c.owner t) (same c.row r)
+  is_for t r c = Dec.and (ℕ_discrete c.owner t) (same c.row r)
 
   -- the change of t's for the row
   abbrev pub pending_for : ℕ → Row → List (Pending Row) → Option Change

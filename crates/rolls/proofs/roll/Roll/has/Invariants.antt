@@ -3,4 +3,4 @@ use Rattle.maps.specs.Maps.{In}
 use Rattle.rolls.proofs.roll.Roll.has.Given as goal
 
 abbrev pub invariant-loop-e : goal.invariant-loop-e
-invariant-loop-e g l = (e : _) → In e (take l.e-index l.entries) → ¬ (g.E-as-Owned.owned e ≡ l.owner)
+invariant-loop-e g l = (e : _) → In e (take l.e-index l.entries) → ¬ (g.E.Owned.owned e ≡ l.owner)
