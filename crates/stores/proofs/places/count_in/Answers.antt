@@ -16,7 +16,7 @@ returns-then-eq c =
     let h = c.loop-record-test.true in
     let at = record_at rs i r h c.record-item.is None in
     sym (first_find (contents rs) q i None (within rs i r h c.record-item.is) c.loop-record.invariant
-    (ap (λ p. hits p q) at ∙ hits_same r c.in-Used.entry q c.in-Used.is (c.eq.ensures.0 c.if-eq.true))
+    (ap (λ p. hits p q) at ∙ hits_same r c.in-Used.entry q c.in-Used.is (c.eq.ensures.decides.0 c.if-eq.true))
     ∙ ap (λ p. Some (count_at p)) (at ∙ ap place_of c.in-Used.is))
 
 pub loop-record-preserved : goal.loop-record-preserved
@@ -27,7 +27,7 @@ loop-record-preserved c =
     elim c.match-record.branch [
       | in-Used+else-eq w ↦
           no_hit_more rs c.loop-record.record-index r c.loop-record-test.true c.record-item.is q
-          (hits_other r w.in-Used.entry q w.eq.result w.in-Used.is w.eq.ensures w.if-eq.false) c.loop-record.invariant
+          (hits_other r w.in-Used.entry q w.eq.result w.in-Used.is w.eq.ensures.decides w.if-eq.false) c.loop-record.invariant
       | in_default w ↦
           no_hit_more rs c.loop-record.record-index r c.loop-record-test.true c.record-item.is q
           (ap (λ r. hits (place_of r) q) w.in_default.is) c.loop-record.invariant

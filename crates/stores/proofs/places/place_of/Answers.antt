@@ -12,7 +12,7 @@ returns-then-eq c =
     let r = c.index-records-k.result in (
       c.loop-k-test.true,
       hit_at c.args.records.now c.loop-k.k r c.loop-k-test.true c.index-records-k.is q
-          (hits_same r c.in-Used.entry q c.in-Used.is (c.eq.ensures.0 c.if-eq.true)),
+          (hits_same r c.in-Used.entry q c.in-Used.is (c.eq.ensures.decides.0 c.if-eq.true)),
     )
 
 pub loop-k-preserved : goal.loop-k-preserved
@@ -22,7 +22,7 @@ loop-k-preserved c =
     elim c.match-record.branch [
       | in-Used+else-eq w ↦
           no_hit_more c.args.records.now c.loop-k.k r c.loop-k-test.true c.index-records-k.is q
-          (hits_other r w.in-Used.entry q w.eq.result w.in-Used.is w.eq.ensures w.if-eq.false) c.loop-k.invariant
+          (hits_other r w.in-Used.entry q w.eq.result w.in-Used.is w.eq.ensures.decides w.if-eq.false) c.loop-k.invariant
       | in_default w ↦
           no_hit_more c.args.records.now c.loop-k.k r c.loop-k-test.true c.index-records-k.is q
           (ap (λ r. hits (place_of r) q) w.in_default.is) c.loop-k.invariant

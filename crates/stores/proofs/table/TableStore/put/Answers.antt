@@ -19,7 +19,7 @@ invariant_of-self c =
     let long = length-set rs c.in-Some.k (Used e) in
     let few = t.few in
     let some = t.some in
-    (replace_apart rs t.apart e c.in-Some.k c.in-Some.ensures.1, (omega arith, (omega arith, tt)))
+    record { apart = replace_apart rs t.apart e c.in-Some.k c.in-Some.ensures.1; some = omega arith; few = omega arith }
 
 pub invariant_of-self-in-Some-free : goal.invariant_of-self-in-Some-free
 invariant_of-self-in-Some-free c =
@@ -29,7 +29,7 @@ invariant_of-self-in-Some-free c =
     let long = length-set rs c.in-Some-free.k (Used e) in
     let few = t.few in
     let some = t.some in
-    (add_apart rs t.apart e c.in-None.ensures c.in-Some-free.k c.in-Some-free.ensures.1, (omega arith, (omega arith, tt)))
+    record { apart = add_apart rs t.apart e c.in-None.ensures c.in-Some-free.k c.in-Some-free.ensures.1; some = omega arith; few = omega arith }
 
 pub returns-in-Some : goal.returns-in-Some
 returns-in-Some c =

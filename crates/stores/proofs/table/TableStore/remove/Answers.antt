@@ -12,7 +12,7 @@ invariant_of-self c =
     let long = length-set rs c.in-Some.k Free in
     let few = t.few in
     let some = t.some in
-    (drop_apart rs t.apart (cells_of c.args.key.now) c.in-Some.k c.in-Some.ensures.1, (omega arith, (omega arith, tt)))
+    record { apart = drop_apart rs t.apart (cells_of c.args.key.now) c.in-Some.k c.in-Some.ensures.1; some = omega arith; few = omega arith }
 
 pub returns-in-Some : goal.returns-in-Some
 returns-in-Some c =
