@@ -5,17 +5,17 @@ use Rattle.compare.specs.Settling.{WithinCells, Unmet, Settled}
 use Rattle.compare.proofs.Readings.{from_start}
 use Rattle.compare.proofs.Values.{fails_class, settled_class, settled_term}
 use Rattle.compare.proofs.classes.settle.Goals as goal
-use Rattle.compare.proofs.classes.settle.Goals.{in-Variable+in_ok-value, in-Term+else-not-meets}
+use Rattle.compare.proofs.classes.settle.Goals.{in-Variable+in_ok-value-in-Variable, in-Term+else-not-meets}
 
-pub returns-in_err-value : goal.returns-in_err-value
-returns-in_err-value g c =
+pub returns-in_err-value-in-Variable : goal.returns-in_err-value-in-Variable
+returns-in_err-value-in-Variable g c =
     let M = g.K.Kind.means c.args.kind.now in
     let cells = c.args.cells.now in
     let rs = c.args.roots.now in
     let ks = c.args.constraints.now in
     subst (λ (o : Option (List Cell)). MatchOption o (Unmet M cells rs ks) (λ fills. Settled M cells rs ks fills (length ks))) (sym c.from_residual.ensures)
     (fails_class M cells rs ks c.loop-constraint.constraint-index c.in-Variable.y (take (c.gather-class.result.count - 0) c.gather-class.result.conditions)
-    c.loop-constraint-test.true c.in-Variable.is (from_start c.gather-class.result.conditions c.gather-class.result.count ∙ c.gather-class.ensures.all) c.in_err-value.ensures)
+    c.loop-constraint-test.true c.in-Variable.is (from_start c.gather-class.result.conditions c.gather-class.result.count ∙ c.gather-class.ensures.all) c.in_err-value-in-Variable.ensures)
 
 pub loop-constraint-preserved : goal.loop-constraint-preserved
 loop-constraint-preserved g c =
@@ -26,11 +26,11 @@ loop-constraint-preserved g c =
     let i : ℕ = c.loop-constraint.constraint-index in
     let fills = c.loop-constraint.fills in
     elim c.match-roots-constraint.branch [
-      | in-Variable+in_ok-value w ↦
-          (let h = w.in_ok-value.ensures in
+      | in-Variable+in_ok-value-in-Variable w ↦
+          (let h = w.in_ok-value-in-Variable.ensures in
           let small : w.in-Variable.y < 16 = subst (WithinCells cells) w.in-Variable.is (c.requires.rooted (constraint_at ks i).variable (c.requires.named i c.loop-constraint-test.true)) in
           subst (λ (fs : List Cell). Settled M cells rs ks fs (i + 1)) (sym w.fills-is)
-          (settled_class M cells rs ks fills i w.in-Variable.y w.in_ok-value.value.letter w.in_ok-value.value.code
+          (settled_class M cells rs ks fills i w.in-Variable.y w.in_ok-value-in-Variable.value.letter w.in_ok-value-in-Variable.value.code
           (take (w.gather-class.result.count - 0) w.gather-class.result.conditions) c.loop-constraint-test.true small w.in-Variable.is (from_start w.gather-class.result.conditions w.gather-class.result.count ∙ w.gather-class.ensures.all) h.0 h.1 c.loop-constraint.invariant))
       | in-Term+else-not-meets w ↦
           subst (λ (fs : List Cell). Settled M cells rs ks fs (i + 1)) (sym w.fills-is)
