@@ -41,9 +41,9 @@ returns-in-None g c =
     let k = c.args.k in
     let M = g.K.Kind.means c.args.kind.now in
     let sig = c.args.signature.now.arities in
-    let e = at_variant (RowCells sig M) _ c.in-Ok.shown (Some c.in-Some.-entry) c.in-Some.is c.in-Ok.ensures in
+    let e = at_variant (RowCells sig M) _ c.in-Ok.shown (Some c.in-Some._entry) c.in-Some.is c.in-Ok.ensures in
     good_some (RowCells sig M) (row_storable M (g.met.K.Kind.sound c.args.kind.now) sig) xs k c.requires.before
-    (holding_of c.in-Some.-entry) e.0 (sym (line_is k ((k * 128 + 128) - k * 128) xs (omega arith)) ∙ e.1)
+    (holding_of c.in-Some._entry) e.0 (sym (line_is k ((k * 128 + 128) - k * 128) xs (omega arith)) ∙ e.1)
     _ (line_part k ((k * 128 + 120) - k * 128) 120 xs (omega arith) (omega arith)) c.in-None.ensures
 
 pub returns-in-Some-place_of : goal.returns-in-Some-place_of
@@ -52,8 +52,8 @@ returns-in-Some-place_of g c =
     let k = c.args.k in
     let M = g.K.Kind.means c.args.kind.now in
     let sig = c.args.signature.now.arities in
-    let e = at_variant (RowCells sig M) _ c.in-Ok.shown (Some c.in-Some.-entry) c.in-Some.is c.in-Ok.ensures in
+    let e = at_variant (RowCells sig M) _ c.in-Ok.shown (Some c.in-Some._entry) c.in-Some.is c.in-Ok.ensures in
     let a = again (RowCells sig M) (row_storable M (g.met.K.Kind.sound c.args.kind.now) sig) xs k c.requires.before
-    (holding_of c.in-Some.-entry) e.0 (sym (line_is k ((k * 128 + 128) - k * 128) xs (omega arith)) ∙ e.1)
+    (holding_of c.in-Some._entry) e.0 (sym (line_is k ((k * 128 + 128) - k * 128) xs (omega arith)) ∙ e.1)
     _ (line_part k ((k * 128 + 120) - k * 128) 120 xs (omega arith) (omega arith)) c.in-Some-place_of.field-0 c.in-Some-place_of.ensures in
     inr (refl, a.0, a.1)

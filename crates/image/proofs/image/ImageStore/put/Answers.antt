@@ -10,7 +10,7 @@ pub invariant_of-self : goal.invariant_of-self
 invariant_of-self c =
     let ys = c.put.new.self.bytes.now in
     let s = c.put.ensures.sound in
-    (s.whole, (s.allowed.0, (s.allowed.1, (tested_shows (lines_in ys) ys s.shows, (s.apart, tt)))))
+    record { whole = s.whole; some = s.allowed.0; few = s.allowed.1; shown = tested_shows (lines_in ys) ys s.shows; apart = s.apart }
 
 pub returns : goal.returns
 returns c = let e = c.put.ensures in record { put = e.put; places = ap (λ m. m / 128) e.long; lines = e.lines }

@@ -6,4 +6,4 @@ pub invariant_of-result : goal.invariant_of-result
 invariant_of-result c =
     let xs = c.args.self.bytes.now in
     let s = c.requires in
-    (s.whole, (s.allowed.0, (s.allowed.1, (tested_shows (lines_in xs) xs s.shows, (s.apart, tt)))))
+    record { whole = s.whole; some = s.allowed.0; few = s.allowed.1; shown = tested_shows (lines_in xs) xs s.shows; apart = s.apart }
