@@ -45,10 +45,10 @@ fn clash_with<K: Kind>(
     pattern: &Pattern,
     sheet: &mut [Cell; 16],
 ) -> Option<Sample>
-    requires held { ProperPattern signature.now.arities (means kind.now) (described held.now.pattern) }
-    requires pattern { ProperPattern signature.now.arities (means kind.now) (described pattern.now) }
+    requires held { ProperPattern signature.now.arities (K.Kind.means kind.now) (described held.now.pattern) }
+    requires pattern { ProperPattern signature.now.arities (K.Kind.means kind.now) (described pattern.now) }
     requires blank { Blank sheet.old }
-    ensures answer { MatchOption result (Clashing signature.now.arities (means kind.now) (request transaction (right_of right) (described pattern.now)) held.now → ⊥) (λ s. Clashing signature.now.arities (means kind.now) (request transaction (right_of right) (described pattern.now)) held.now × Shown signature.now.arities (means kind.now) (described held.now.pattern) (described pattern.now) s) }
+    ensures answer { MatchOption result (Clashing signature.now.arities (K.Kind.means kind.now) (request transaction (right_of right) (described pattern.now)) held.now → ⊥) (λ s. Clashing signature.now.arities (K.Kind.means kind.now) (request transaction (right_of right) (described pattern.now)) held.now × Shown signature.now.arities (K.Kind.means kind.now) (described held.now.pattern) (described pattern.now) s) }
     ensures blank { Blank sheet.new }
 {
     if held.owner == transaction {
@@ -71,10 +71,10 @@ pub fn first_clash<K: Kind>(
     pattern: &Pattern,
     sheet: &mut [Cell; 16],
 ) -> Option<Clash>
-    requires held { (r : Reservation) → In r reservations.now → ProperPattern signature.now.arities (means kind.now) (described r.pattern) }
-    requires pattern { ProperPattern signature.now.arities (means kind.now) (described pattern.now) }
+    requires held { (r : Reservation) → In r reservations.now → ProperPattern signature.now.arities (K.Kind.means kind.now) (described r.pattern) }
+    requires pattern { ProperPattern signature.now.arities (K.Kind.means kind.now) (described pattern.now) }
     requires blank { Blank sheet.old }
-    ensures answer { MatchOption result ((h : Reservation) → In h reservations.now → ¬ Clashing signature.now.arities (means kind.now) (request transaction (right_of right) (described pattern.now)) h) (FirstClash signature.now.arities (means kind.now) (request transaction (right_of right) (described pattern.now)) reservations.now) }
+    ensures answer { MatchOption result ((h : Reservation) → In h reservations.now → ¬ Clashing signature.now.arities (K.Kind.means kind.now) (request transaction (right_of right) (described pattern.now)) h) (FirstClash signature.now.arities (K.Kind.means kind.now) (request transaction (right_of right) (described pattern.now)) reservations.now) }
     ensures blank { Blank sheet.new }
 {
     for (index, held) in reservations.iter().enumerate() {

@@ -18,7 +18,7 @@ fn is_altering<S: Store>(
     transaction: u32,
     absences: bool,
 ) -> bool
-    ensures { result ≡ alters absences transaction (means store.now) (pending_of change.now) }
+    ensures { result ≡ alters absences transaction (S.Store.means store.now) (pending_of change.now) }
 {
     if change.owner != transaction {
         return false;
@@ -36,7 +36,7 @@ fn count_altering<S: Store>(
     transaction: u32,
     absences: bool,
 ) -> usize
-    ensures count { result ≡ count_by (λ c. alters absences transaction (means store.now) (pending_of c)) changes.now }
+    ensures count { result ≡ count_by (λ c. alters absences transaction (S.Store.means store.now) (pending_of c)) changes.now }
     ensures few { result ≤ length changes.now }
 {
     let mut number = 0;
@@ -49,8 +49,8 @@ fn count_altering<S: Store>(
 }
 
 fn enter_absence<S: Store>(store: &mut S, change: &PendingChange, transaction: u32)
-    ensures map { Same (means store.new) (entered decided (chosen true transaction (pending_of change.now ∷ [])) (means store.old)) }
-    ensures places { places store.new ≡ places store.old }
+    ensures map { Same (S.Store.means store.new) (entered decided (chosen true transaction (pending_of change.now ∷ [])) (S.Store.means store.old)) }
+    ensures places { S.Store.places store.new ≡ S.Store.places store.old }
 {
     if change.owner == transaction {
         if let None = change.change {
@@ -61,8 +61,8 @@ fn enter_absence<S: Store>(store: &mut S, change: &PendingChange, transaction: u
 
 // The absences, in order of arrival.
 fn enter_absences<S: Store>(store: &mut S, changes: &[PendingChange], transaction: u32)
-    ensures map { Same (means store.new) (entered decided (chosen true transaction (map pending_of changes.now)) (means store.old)) }
-    ensures places { places store.new ≡ places store.old }
+    ensures map { Same (S.Store.means store.new) (entered decided (chosen true transaction (map pending_of changes.now)) (S.Store.means store.old)) }
+    ensures places { S.Store.places store.new ≡ S.Store.places store.old }
 {
     for change in changes {
         enter_absence(store, change, transaction);
@@ -70,9 +70,9 @@ fn enter_absences<S: Store>(store: &mut S, changes: &[PendingChange], transactio
 }
 
 fn enter_count<S: Store>(store: &mut S, change: &PendingChange, transaction: u32)
-    requires { Room decided (means store.old) (chosen false transaction (pending_of change.now ∷ [])) (places store.old) }
-    ensures map { Same (means store.new) (entered decided (chosen false transaction (pending_of change.now ∷ [])) (means store.old)) }
-    ensures places { places store.new ≡ places store.old }
+    requires { Room decided (S.Store.means store.old) (chosen false transaction (pending_of change.now ∷ [])) (S.Store.places store.old) }
+    ensures map { Same (S.Store.means store.new) (entered decided (chosen false transaction (pending_of change.now ∷ [])) (S.Store.means store.old)) }
+    ensures places { S.Store.places store.new ≡ S.Store.places store.old }
 {
     if change.owner == transaction {
         if let Some(count) = change.change {
@@ -84,9 +84,9 @@ fn enter_count<S: Store>(store: &mut S, change: &PendingChange, transaction: u32
 
 // The counts, in order of arrival.
 fn enter_counts<S: Store>(store: &mut S, changes: &[PendingChange], transaction: u32)
-    requires { Room decided (means store.old) (chosen false transaction (map pending_of changes.now)) (places store.old) }
-    ensures map { Same (means store.new) (entered decided (chosen false transaction (map pending_of changes.now)) (means store.old)) }
-    ensures places { places store.new ≡ places store.old }
+    requires { Room decided (S.Store.means store.old) (chosen false transaction (map pending_of changes.now)) (S.Store.places store.old) }
+    ensures map { Same (S.Store.means store.new) (entered decided (chosen false transaction (map pending_of changes.now)) (S.Store.means store.old)) }
+    ensures places { S.Store.places store.new ≡ S.Store.places store.old }
 {
     for change in changes {
         enter_count(store, change, transaction);
@@ -101,7 +101,7 @@ pub fn enter_changes<S: Store>(
 ) -> Result<(), StoreFault>
     requires keys { KeysOnce (map pending_of changes.now) }
     requires few { length changes.now ≤ 128 }
-    ensures { Entered means places transaction changes.now store.old store.new result }
+    ensures { Entered S.Store.means S.Store.places transaction changes.now store.old store.new result }
 {
     let size = store.size();
     let added = count_altering(store, changes, transaction, false);

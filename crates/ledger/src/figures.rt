@@ -44,9 +44,9 @@ fn stands<K: Kind>(
     row: &Key,
     sheet: &mut [Cell; 16],
 ) -> bool
-    requires pattern { ProperPattern signature.now.arities (means kind.now) (described pattern.now) }
+    requires pattern { ProperPattern signature.now.arities (K.Kind.means kind.now) (described pattern.now) }
     requires blank { Blank sheet.old }
-    ensures answer { Decides result (Stands signature.now.arities (means kind.now) transaction (described pattern.now) changes.now (key_cells row.now)) }
+    ensures answer { Decides result (Stands signature.now.arities (K.Kind.means kind.now) transaction (described pattern.now) changes.now (key_cells row.now)) }
     ensures blank { Blank sheet.new }
 {
     match change_for(changes, transaction, row) {
@@ -102,9 +102,9 @@ fn adds<K: Kind>(
     pattern: &Pattern,
     sheet: &mut [Cell; 16],
 ) -> Option<Count>
-    requires pattern { ProperPattern signature.now.arities (means kind.now) (described pattern.now) }
+    requires pattern { ProperPattern signature.now.arities (K.Kind.means kind.now) (described pattern.now) }
     requires blank { Blank sheet.old }
-    ensures answer { Adds signature.now.arities (means kind.now) transaction (described pattern.now) change.now result }
+    ensures answer { Adds signature.now.arities (K.Kind.means kind.now) transaction (described pattern.now) change.now result }
     ensures blank { Blank sheet.new }
 {
     if change.owner != transaction {
@@ -125,11 +125,11 @@ pub fn survey_changes<K: Kind>(
     pattern: &Pattern,
     sheet: &mut [Cell; 16],
 ) -> (u32, u64)
-    requires pattern { ProperPattern signature.now.arities (means kind.now) (described pattern.now) }
+    requires pattern { ProperPattern signature.now.arities (K.Kind.means kind.now) (described pattern.now) }
     requires blank { Blank sheet.old }
     requires keys { KeysOnce (map pending_of changes.now) }
     requires few { length changes.now ≤ 128 }
-    ensures figures { (m : Map (List Cell)) → Figures (OwnRows transaction (λ q. Fits signature.now.arities (means kind.now) q (described pattern.now)) (map pending_of changes.now)) (with_own decided transaction (map pending_of changes.now) m) result.0 result.1 }
+    ensures figures { (m : Map (List Cell)) → Figures (OwnRows transaction (λ q. Fits signature.now.arities (K.Kind.means kind.now) q (described pattern.now)) (map pending_of changes.now)) (with_own decided transaction (map pending_of changes.now) m) result.0 result.1 }
     ensures small { (result.0 ≤ 128) × (result.1 ≤ 128 * 999999) }
     ensures blank { Blank sheet.new }
 {

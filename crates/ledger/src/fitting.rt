@@ -36,9 +36,9 @@ pub fn fits_key<K: Kind>(
     pattern: &Pattern,
     sheet: &mut [Cell; 16],
 ) -> bool
-    requires pattern { ProperPattern signature.now.arities (means kind.now) (described pattern.now) }
+    requires pattern { ProperPattern signature.now.arities (K.Kind.means kind.now) (described pattern.now) }
     requires blank { Blank sheet.old }
-    ensures answer { Decides result (Fits signature.now.arities (means kind.now) (key_cells key.now) (described pattern.now)) }
+    ensures answer { Decides result (Fits signature.now.arities (K.Kind.means kind.now) (key_cells key.now) (described pattern.now)) }
     ensures blank { Blank sheet.new }
 {
     match Row::read(signature, kind, key.cells()) {
@@ -57,10 +57,10 @@ fn covers<K: Kind>(
     changing: bool,
     sheet: &mut [Cell; 16],
 ) -> bool
-    requires held { ProperPattern signature.now.arities (means kind.now) (described held.now.pattern) }
-    requires row { RowCells signature.now.arities (means kind.now) (cells_of row.now) }
+    requires held { ProperPattern signature.now.arities (K.Kind.means kind.now) (described held.now.pattern) }
+    requires row { RowCells signature.now.arities (K.Kind.means kind.now) (cells_of row.now) }
     requires blank { Blank sheet.old }
-    ensures answer { Decides result (Covers signature.now.arities (means kind.now) transaction (cells_of row.now) changing held.now) }
+    ensures answer { Decides result (Covers signature.now.arities (K.Kind.means kind.now) transaction (cells_of row.now) changing held.now) }
     ensures blank { Blank sheet.new }
 {
     if held.owner != transaction {
@@ -84,10 +84,10 @@ pub fn covered<K: Kind>(
     changing: bool,
     sheet: &mut [Cell; 16],
 ) -> bool
-    requires held { (r : Reservation) → In r reservations.now → ProperPattern signature.now.arities (means kind.now) (described r.pattern) }
-    requires row { RowCells signature.now.arities (means kind.now) (cells_of row.now) }
+    requires held { (r : Reservation) → In r reservations.now → ProperPattern signature.now.arities (K.Kind.means kind.now) (described r.pattern) }
+    requires row { RowCells signature.now.arities (K.Kind.means kind.now) (cells_of row.now) }
     requires blank { Blank sheet.old }
-    ensures answer { Decides result (Covered signature.now.arities (means kind.now) transaction (cells_of row.now) changing reservations.now) }
+    ensures answer { Decides result (Covered signature.now.arities (K.Kind.means kind.now) transaction (cells_of row.now) changing reservations.now) }
     ensures blank { Blank sheet.new }
 {
     for held in reservations {

@@ -33,7 +33,7 @@ use terms::signature::Signature;
 
 // The row that a caller writes.
 fn read_row<K: Kind>(kind: &K, signature: &Signature, cells: &[Cell]) -> Result<Row, ManagerFault>
-    ensures { RowChecked signature.now.arities (means kind.now) cells.now result }
+    ensures { RowChecked signature.now.arities (K.Kind.means kind.now) cells.now result }
 {
     let row = Row::read(signature, kind, cells)?;
     Ok(row)
@@ -49,10 +49,10 @@ impl<K: Kind> Manager<K> {
         sheet: &mut [Cell; 16],
     ) -> bool
         requires sizes { Sizes memory.now }
-        requires well { Well means self.now memory.now }
-        requires row { RowCells self.now.signature.arities (means self.now.kind) (cells_of row.now) }
+        requires well { Well K.Kind.means self.now memory.now }
+        requires row { RowCells self.now.signature.arities (K.Kind.means self.now.kind) (cells_of row.now) }
         requires blank { Blank sheet.old }
-        ensures answer { MatchBool result (Covered self.now.signature.arities (means self.now.kind) transaction (cells_of row.now) changing (book_of self.now memory.now).reservations) (Covered self.now.signature.arities (means self.now.kind) transaction (cells_of row.now) changing (book_of self.now memory.now).reservations → ⊥) }
+        ensures answer { MatchBool result (Covered self.now.signature.arities (K.Kind.means self.now.kind) transaction (cells_of row.now) changing (book_of self.now memory.now).reservations) (Covered self.now.signature.arities (K.Kind.means self.now.kind) transaction (cells_of row.now) changing (book_of self.now memory.now).reservations → ⊥) }
         ensures blank { Blank sheet.new }
     {
         covered(
@@ -152,10 +152,10 @@ impl<K: Kind> Manager<K> {
         count: u32,
         sheet: &mut [Cell; 16],
     ) -> Result<(), ManagerFault>
-        requires { Well means self.old memory.old }
-        ensures answers { Answers (write_checks self.old.signature.arities (means self.old.kind) memory.old (book_of self.old memory.old) transaction cells.now count) (λ _. Changed transaction cells.now (written count) (book_of self.old memory.old) (book_of self.new memory.new)) (λ _. book_of self.new memory.new ≡ book_of self.old memory.old) result }
+        requires { Well K.Kind.means self.old memory.old }
+        ensures answers { Answers (write_checks self.old.signature.arities (K.Kind.means self.old.kind) memory.old (book_of self.old memory.old) transaction cells.now count) (λ _. Changed transaction cells.now (written count) (book_of self.old memory.old) (book_of self.new memory.new)) (λ _. book_of self.new memory.new ≡ book_of self.old memory.old) result }
         ensures blank { Blank sheet.new }
-        ensures well { Well means self.new memory.new }
+        ensures well { Well K.Kind.means self.new memory.new }
         ensures fixed { Fixed self.old self.new }
         ensures sizes { Sizes memory.old → Sizes memory.new }
     {
@@ -184,10 +184,10 @@ impl<K: Kind> Manager<K> {
         cells: &[Cell],
         sheet: &mut [Cell; 16],
     ) -> Result<(), ManagerFault>
-        requires { Well means self.old memory.old }
-        ensures answers { Answers (strike_checks self.old.signature.arities (means self.old.kind) memory.old (book_of self.old memory.old) transaction cells.now) (λ _. Changed transaction cells.now struck (book_of self.old memory.old) (book_of self.new memory.new)) (λ _. book_of self.new memory.new ≡ book_of self.old memory.old) result }
+        requires { Well K.Kind.means self.old memory.old }
+        ensures answers { Answers (strike_checks self.old.signature.arities (K.Kind.means self.old.kind) memory.old (book_of self.old memory.old) transaction cells.now) (λ _. Changed transaction cells.now struck (book_of self.old memory.old) (book_of self.new memory.new)) (λ _. book_of self.new memory.new ≡ book_of self.old memory.old) result }
         ensures blank { Blank sheet.new }
-        ensures well { Well means self.new memory.new }
+        ensures well { Well K.Kind.means self.new memory.new }
         ensures fixed { Fixed self.old self.new }
         ensures sizes { Sizes memory.old → Sizes memory.new }
     {

@@ -19,9 +19,9 @@ use stores::store::Store;
 impl<K: Kind> Manager<K> {
     // Opens the next transaction.
     pub fn begin(&mut self, memory: &mut Memory, planner: u32) -> Result<u32, ManagerFault>
-        requires { Well means self.old memory.old }
+        requires { Well K.Kind.means self.old memory.old }
         ensures answers { Answers (begin_checks memory.old (book_of self.old memory.old) planner) (Begun planner (book_of self.old memory.old) (book_of self.new memory.new)) (λ _. book_of self.new memory.new ≡ book_of self.old memory.old) result }
-        ensures well { Well means self.new memory.new }
+        ensures well { Well K.Kind.means self.new memory.new }
         ensures fixed { Fixed self.old self.new }
         ensures sizes { Sizes memory.old → Sizes memory.new }
     {
@@ -74,9 +74,9 @@ impl<K: Kind> Manager<K> {
 
     // All entries of the transaction leave; how many changes it had.
     pub fn abandon(&mut self, memory: &mut Memory, transaction: u32) -> Result<u32, ManagerFault>
-        requires { Well means self.old memory.old }
+        requires { Well K.Kind.means self.old memory.old }
         ensures answers { Answers (abandon_checks memory.old (book_of self.old memory.old) transaction) (Abandoned transaction (book_of self.old memory.old) (book_of self.new memory.new)) (λ _. book_of self.new memory.new ≡ book_of self.old memory.old) result }
-        ensures well { Well means self.new memory.new }
+        ensures well { Well K.Kind.means self.new memory.new }
         ensures fixed { Fixed self.old self.new }
         ensures sizes { Sizes memory.old → Sizes memory.new }
     {

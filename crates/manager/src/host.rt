@@ -28,9 +28,9 @@ pub fn begin_ticket<K: Kind>(
     memory: &mut Memory,
     planner: u32,
 ) -> Result<Ticket, ManagerFault>
-    requires { Well means manager.old memory.old }
+    requires { Well K.Kind.means manager.old memory.old }
     ensures answers { Answers (begin_checks memory.old (book_of manager.old memory.old) planner) (λ k. (k.spent ≡ false) × Begun planner (book_of manager.old memory.old) (book_of manager.new memory.new) k.number) (λ _. book_of manager.new memory.new ≡ book_of manager.old memory.old) result }
-    ensures well { Well means manager.new memory.new }
+    ensures well { Well K.Kind.means manager.new memory.new }
     ensures fixed { Fixed manager.old manager.new }
     ensures sizes { Sizes memory.old → Sizes memory.new }
 {
@@ -71,9 +71,9 @@ pub fn abandon_ticket<K: Kind>(
     memory: &mut Memory,
     mut ticket: Ticket,
 ) -> Abandoning
-    requires { Well means manager.old memory.old }
+    requires { Well K.Kind.means manager.old memory.old }
     ensures answers { GivenUp memory.old (book_of manager.old memory.old) (book_of manager.new memory.new) ticket result }
-    ensures well { Well means manager.new memory.new }
+    ensures well { Well K.Kind.means manager.new memory.new }
     ensures fixed { Fixed manager.old manager.new }
     ensures sizes { Sizes memory.old → Sizes memory.new }
 {

@@ -44,10 +44,10 @@ impl<K: Kind> Manager<K> {
         sheet: &mut [Cell; 16],
     ) -> Option<Clash>
         requires sizes { Sizes memory.now }
-        requires well { Well means self.now memory.now }
-        requires pattern { ProperPattern self.now.signature.arities (means self.now.kind) (described pattern.now) }
+        requires well { Well K.Kind.means self.now memory.now }
+        requires pattern { ProperPattern self.now.signature.arities (K.Kind.means self.now.kind) (described pattern.now) }
         requires blank { Blank sheet.old }
-        ensures answer { MatchOption result ((h : Reservation) → In h (book_of self.now memory.now).reservations → ¬ Clashing self.now.signature.arities (means self.now.kind) (request transaction (right_of right) (described pattern.now)) h) (FirstClash self.now.signature.arities (means self.now.kind) (request transaction (right_of right) (described pattern.now)) (book_of self.now memory.now).reservations) }
+        ensures answer { MatchOption result ((h : Reservation) → In h (book_of self.now memory.now).reservations → ¬ Clashing self.now.signature.arities (K.Kind.means self.now.kind) (request transaction (right_of right) (described pattern.now)) h) (FirstClash self.now.signature.arities (K.Kind.means self.now.kind) (request transaction (right_of right) (described pattern.now)) (book_of self.now memory.now).reservations) }
         ensures blank { Blank sheet.new }
     {
         first_clash(
@@ -73,10 +73,10 @@ impl<K: Kind> Manager<K> {
         sheet: &mut [Cell; 16],
         buffer: &mut Sample,
     ) -> Result<u32, ManagerFault>
-        requires { Well means self.old memory.old }
-        ensures answers { Answers (reserve_checks self.old.signature.arities (means self.old.kind) memory.old (book_of self.old memory.old) transaction right (record { cells = cells.entry.now; constraints = constraints.now })) (λ n. Reserved transaction right (record { cells = cells.entry.now; constraints = constraints.now }) (book_of self.old memory.old) (book_of self.new memory.new) n × (buffer.new ≡ buffer.old)) (by_conflict (Conflicted self.old.signature.arities (means self.old.kind) (record { cells = cells.entry.now; constraints = constraints.now }) (book_of self.old memory.old) (book_of self.new memory.new) buffer.new) ((book_of self.new memory.new ≡ book_of self.old memory.old) × (buffer.new ≡ buffer.old))) result }
+        requires { Well K.Kind.means self.old memory.old }
+        ensures answers { Answers (reserve_checks self.old.signature.arities (K.Kind.means self.old.kind) memory.old (book_of self.old memory.old) transaction right (record { cells = cells.entry.now; constraints = constraints.now })) (λ n. Reserved transaction right (record { cells = cells.entry.now; constraints = constraints.now }) (book_of self.old memory.old) (book_of self.new memory.new) n × (buffer.new ≡ buffer.old)) (by_conflict (Conflicted self.old.signature.arities (K.Kind.means self.old.kind) (record { cells = cells.entry.now; constraints = constraints.now }) (book_of self.old memory.old) (book_of self.new memory.new) buffer.new) ((book_of self.new memory.new ≡ book_of self.old memory.old) × (buffer.new ≡ buffer.old))) result }
         ensures blank { Blank sheet.new }
-        ensures well { Well means self.new memory.new }
+        ensures well { Well K.Kind.means self.new memory.new }
         ensures fixed { Fixed self.old self.new }
         ensures sizes { Sizes memory.old → Sizes memory.new }
     {

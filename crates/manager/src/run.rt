@@ -18,9 +18,9 @@ use terms::constraint::Constraint;
 
 impl<K: Kind> Manager<K> {
     fn answer_begin(&mut self, memory: &mut Memory, planner: u32) -> Answer
-        requires { Well means self.old memory.old }
-        ensures steps { (m : _) → Steps (language self.old.signature.arities (means self.old.kind)) (book_of self.old memory.old) (book_of self.new memory.new) m m (asks_begin planner) (says result) }
-        ensures well { Well means self.new memory.new }
+        requires { Well K.Kind.means self.old memory.old }
+        ensures steps { (m : _) → Steps (language self.old.signature.arities (K.Kind.means self.old.kind)) (book_of self.old memory.old) (book_of self.new memory.new) m m (asks_begin planner) (says result) }
+        ensures well { Well K.Kind.means self.new memory.new }
         ensures fixed { Fixed self.old self.new }
     {
         match self.begin(memory, planner) {
@@ -39,10 +39,10 @@ impl<K: Kind> Manager<K> {
         sheet: &mut [Cell; 16],
         buffer: &mut Sample,
     ) -> Answer
-        requires { Well means self.old memory.old }
-        ensures steps { (m : _) → Steps (language self.old.signature.arities (means self.old.kind)) (book_of self.old memory.old) (book_of self.new memory.new) m m (asks_reserve transaction right (record { cells = cells.entry.now; constraints = constraints.now })) (says result) }
+        requires { Well K.Kind.means self.old memory.old }
+        ensures steps { (m : _) → Steps (language self.old.signature.arities (K.Kind.means self.old.kind)) (book_of self.old memory.old) (book_of self.new memory.new) m m (asks_reserve transaction right (record { cells = cells.entry.now; constraints = constraints.now })) (says result) }
         ensures blank { Blank sheet.new }
-        ensures well { Well means self.new memory.new }
+        ensures well { Well K.Kind.means self.new memory.new }
         ensures fixed { Fixed self.old self.new }
     {
         match self.reserve(
@@ -103,10 +103,10 @@ impl<K: Kind> Manager<K> {
         count: u32,
         sheet: &mut [Cell; 16],
     ) -> Answer
-        requires { Well means self.old memory.old }
-        ensures steps { (m : _) → Steps (language self.old.signature.arities (means self.old.kind)) (book_of self.old memory.old) (book_of self.new memory.new) m m (asks_write transaction cells.now count) (says result) }
+        requires { Well K.Kind.means self.old memory.old }
+        ensures steps { (m : _) → Steps (language self.old.signature.arities (K.Kind.means self.old.kind)) (book_of self.old memory.old) (book_of self.new memory.new) m m (asks_write transaction cells.now count) (says result) }
         ensures blank { Blank sheet.new }
-        ensures well { Well means self.new memory.new }
+        ensures well { Well K.Kind.means self.new memory.new }
         ensures fixed { Fixed self.old self.new }
     {
         match self.write(memory, transaction, cells, count, sheet) {
@@ -122,10 +122,10 @@ impl<K: Kind> Manager<K> {
         cells: &[Cell],
         sheet: &mut [Cell; 16],
     ) -> Answer
-        requires { Well means self.old memory.old }
-        ensures steps { (m : _) → Steps (language self.old.signature.arities (means self.old.kind)) (book_of self.old memory.old) (book_of self.new memory.new) m m (asks_strike transaction cells.now) (says result) }
+        requires { Well K.Kind.means self.old memory.old }
+        ensures steps { (m : _) → Steps (language self.old.signature.arities (K.Kind.means self.old.kind)) (book_of self.old memory.old) (book_of self.new memory.new) m m (asks_strike transaction cells.now) (says result) }
         ensures blank { Blank sheet.new }
-        ensures well { Well means self.new memory.new }
+        ensures well { Well K.Kind.means self.new memory.new }
         ensures fixed { Fixed self.old self.new }
     {
         match self.strike(memory, transaction, cells, sheet) {
@@ -152,9 +152,9 @@ impl<K: Kind> Manager<K> {
     }
 
     fn answer_abandon(&mut self, memory: &mut Memory, transaction: u32) -> Answer
-        requires { Well means self.old memory.old }
-        ensures steps { (m : _) → Steps (language self.old.signature.arities (means self.old.kind)) (book_of self.old memory.old) (book_of self.new memory.new) m m (asks_abandon transaction) (says result) }
-        ensures well { Well means self.new memory.new }
+        requires { Well K.Kind.means self.old memory.old }
+        ensures steps { (m : _) → Steps (language self.old.signature.arities (K.Kind.means self.old.kind)) (book_of self.old memory.old) (book_of self.new memory.new) m m (asks_abandon transaction) (says result) }
+        ensures well { Well K.Kind.means self.new memory.new }
         ensures fixed { Fixed self.old self.new }
     {
         match self.abandon(memory, transaction) {

@@ -19,8 +19,8 @@ fn begin_often<K: Kind>(
     memory: &mut Memory,
     times: u32,
 ) -> Result<(), ManagerFault>
-    requires { Well means manager.old memory.old }
-    ensures { Well means manager.new memory.new }
+    requires { Well K.Kind.means manager.old memory.old }
+    ensures { Well K.Kind.means manager.new memory.new }
 {
     for _ in 0..times {
         let number = manager.begin(memory, 1)?;
@@ -35,8 +35,8 @@ fn reserve_often<K: Kind>(
     memory: &mut Memory,
     times: u32,
 ) -> Result<(), ManagerFault>
-    requires { Well means manager.old memory.old }
-    ensures { Well means manager.new memory.new }
+    requires { Well K.Kind.means manager.old memory.old }
+    ensures { Well K.Kind.means manager.new memory.new }
 {
     let nought = [cell(b'S', 0)];
     let mut sheet = [BLANK; 16];

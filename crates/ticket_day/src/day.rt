@@ -38,8 +38,8 @@ fn describe<K: Kind>(
     first: u32,
     second: u32,
 )
-    requires { Well means manager.old memory.old }
-    ensures well { Well means manager.new memory.new }
+    requires { Well K.Kind.means manager.old memory.old }
+    ensures well { Well K.Kind.means manager.new memory.new }
     ensures sizes { Sizes memory.old → Sizes memory.new }
 {
     log.remark("Both reserve what they are to load. Mondays at junction 12 are planner 3's too.");

@@ -45,8 +45,8 @@ pub fn begin<K: Kind>(
     log: &mut Log,
     planner: u32,
 ) -> Option<Ticket>
-    requires { Well means manager.old memory.old }
-    ensures well { Well means manager.new memory.new }
+    requires { Well K.Kind.means manager.old memory.old }
+    ensures well { Well K.Kind.means manager.new memory.new }
     ensures sizes { Sizes memory.old → Sizes memory.new }
 {
     let call = beginning(planner);
@@ -72,8 +72,8 @@ pub fn reserve<'a, K: Kind>(
     cells: &'a [Cell],
     constraints: &'a [Constraint],
 )
-    requires { Well means manager.old memory.old }
-    ensures well { Well means manager.new memory.new }
+    requires { Well K.Kind.means manager.old memory.old }
+    ensures well { Well K.Kind.means manager.new memory.new }
     ensures sizes { Sizes memory.old → Sizes memory.new }
 {
     let mut sample = NO_SAMPLE;
@@ -143,8 +143,8 @@ pub fn write<K: Kind>(
     cells: &[Cell],
     count: u32,
 )
-    requires { Well means manager.old memory.old }
-    ensures well { Well means manager.new memory.new }
+    requires { Well K.Kind.means manager.old memory.old }
+    ensures well { Well K.Kind.means manager.new memory.new }
     ensures sizes { Sizes memory.old → Sizes memory.new }
 {
     let answer = match manager.write(memory, transaction, cells, count, sheet) {
@@ -166,9 +166,9 @@ pub fn abandon<K: Kind>(
     log: &mut Log,
     ticket: Ticket,
 )
-    requires well { Well means manager.old memory.old }
+    requires well { Well K.Kind.means manager.old memory.old }
     requires sizes { Sizes memory.old }
-    ensures well { Well means manager.new memory.new }
+    ensures well { Well K.Kind.means manager.new memory.new }
     ensures sizes { Sizes memory.new }
 {
     let transaction = ticket.number();

@@ -11,7 +11,7 @@ returns-then-eq c = record {
   change = c.index-changes-place.result;
   within = c.loop-place-test.true;
   there = c.index-changes-place.is;
-  here = (c.if-change-transaction.true, c.if-eq.ensures.0 refl);
+  here = (c.if-change-transaction.true, c.if-eq.ensures.decides.0 refl);
   before = c.loop-place.invariant;
 }
 
@@ -19,7 +19,7 @@ pub loop-place-preserved : goal.loop-place-preserved
 loop-place-preserved c =
     none_more (For c.args.transaction (cells_of c.args.row.now)) c.args.changes.now c.loop-place.place c.index-changes-place.result c.loop-place-test.true c.index-changes-place.is c.loop-place.invariant
     (elim c.else-change-transaction.branch [
-      | else-change-transaction-via-then-change-transaction+else-eq w ↦ λ p. both_ways false refl (w.if-eq.ensures.1 p.1)
+      | else-change-transaction-via-then-change-transaction+else-eq w ↦ λ p. both_ways false refl (w.if-eq.ensures.decides.1 p.1)
       | else-change-transaction-via-else-change-transaction w ↦ λ p. w.if-change-transaction.false p.0
     ])
 
