@@ -4,8 +4,8 @@ use Rattle.requests.proofs.Alike.{Marked, trim_alike, trim_marked}
 use Rattle.requests.proofs.Groups.{Left, left_first, left_next, left_last}
 use Rattle.requests.proofs.loose.groups_in.Goals as goal
 
-pub slice-bounds-rest-end : goal.slice-bounds-rest-end
-slice-bounds-rest-end c = sym (length-take-le c.trimmed_len.result c.args.line.now c.trimmed_len.ensures.within)
+pub slice_bounds-rest-end : goal.slice_bounds-rest-end
+slice_bounds-rest-end c = sym (length-take-le c.trimmed_len.result c.args.line.now c.trimmed_len.ensures.within)
 
 pub loop-rest-init : goal.loop-rest-init
 loop-rest-init c =

@@ -18,7 +18,15 @@ invariant_of-self g c =
     let b0 = m'.begun in
     let r0 = m'.reserved in
     let t0 = m'.tallied in
-    (omega arith, (omega arith, (omega arith, (omega arith, (omega arith, (omega arith, (omega arith, tt)))))))
+    record {
+      few = omega arith;
+      some = omega arith;
+      many = omega arith;
+      ended = omega arith;
+      begun = omega arith;
+      reserved = omega arith;
+      tallied = omega arith;
+    }
 
 pub returns : goal.returns
 returns g c =
