@@ -1,7 +1,7 @@
 -- Bits of a mask, and the zeros below its lowest set bit. Assumes nothing.
-use Rattle.std.proofs.Common.{◌≡◌, ℕ, zero, suc, ◌+◌, ◌-◌, ◌/◌, ◌%◌, ◌^◌, ◌<◌, ◌≤◌, true, ◌⊎◌, sym, refl, ap, ◌∙◌, inl, inr, ⊎_elim, add-one, one-add, arith}
+use Rattle.std.proofs.Common.{◌≡◌, ℕ, zero, suc, ◌+◌, ◌-◌, ◌/◌, ◌%◌, ◌^◌, ◌<◌, ◌≤◌, true, sym, refl, ap, ◌∙◌, ⊎_elim, add-one, one-add, arith}
 use lib.Count.{count_trailing_zeros, under}
-use Rattle.std.proofs.lemmas.Nat.{shr-shr, shr_le, shr_below, shl-shr, pow_pos}
+use Rattle.std.proofs.lemmas.Nat.{shr-shr, shr_le, shr_below}
 use Rattle.std.proofs.lemmas.Bool.{cases_lt, and_parts, leb-true}
 use Rattle.kinds.specs.Sets.{Bit, class_known}
 use Rattle.kinds.specs.declared.condition.Condition.{Condition}

@@ -1,5 +1,5 @@
 -- Two kinds as one: what the first part knows is the first part's, and the rest is the second's.
-use Rattle.std.specs.Prelude.{◌≡◌, ℕ, ◌≤◌, Some, None, Option}
+use Rattle.std.specs.Prelude.{ℕ, Some, None, Option}
 use Rattle.kinds.specs.Meaning.{Meaning}
 
 -- the first part's answer, and where it has none the second's

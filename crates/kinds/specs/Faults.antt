@@ -1,7 +1,6 @@
 -- The bank's refusals: 20 for a cell that is no value, 22 for a condition that no kind knows.
 use Rattle.std.specs.Prelude.{Some, None}
 use Rattle.refusals.specs.declared.Refusal.{Refusal}
-use Rattle.refusals.specs.declared.Layer.{Layer}
 use Rattle.refusals.specs.declared.Layer.TheVariants.{Bank}
 use Rattle.kinds.specs.declared.fault.BankFault.{BankFault}
 use Rattle.kinds.specs.declared.fault.BankFault.TheVariants.{Value, Condition}

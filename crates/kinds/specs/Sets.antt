@@ -1,5 +1,5 @@
 -- The three single kinds: their letters, tops and sets of codes.
-use Rattle.std.specs.Prelude.{◌≡◌, ℕ, ◌+◌, ◌*◌, ◌/◌, ◌%◌, ◌^◌, ◌<◌, ◌≤◌, Bool, true, false, cond, ◌&&◌, ◌||◌, ◌⊎◌, Some, None, Option, ◌==◌, ◌≢◌, nat_le}
+use Rattle.std.specs.Prelude.{◌≡◌, ℕ, ◌/◌, ◌%◌, ◌^◌, ◌≤◌, Bool, true, cond, ◌&&◌, ◌||◌, ◌⊎◌, Some, None, Option, ◌==◌, ◌≢◌, nat_le}
 use Rattle.kinds.specs.declared.condition.Condition.{Condition}
 use Rattle.kinds.specs.Meaning.{Meaning}
 

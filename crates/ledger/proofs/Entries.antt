@@ -1,14 +1,13 @@
 -- A transaction's change for a row, by its place.
-use Rattle.std.proofs.Common.{◌≡◌, ℕ, zero, suc, ◌+◌, ◌<◌, ◌≤◌, ◌⊎◌, List, [], ◌∷◌, ◌++◌, map, length, get_or, take, set, Some, None, Option, sym, refl, ap, ◌∙◌, subst, inl, inr, arith}
+use Rattle.std.proofs.Common.{◌≡◌, ℕ, zero, suc, ◌<◌, ◌⊎◌, List, [], ◌∷◌, ◌++◌, map, length, get_or, take, set, Some, None, Option, sym, refl, ap, ◌∙◌, inl, inr, arith}
 use mathlib.Core.Logic.{if_pos, if_neg}
-use Rattle.std.proofs.lemmas.List.{get_or_default}
 use Rattle.maps.specs.Maps.{In}
 use Rattle.maps.proofs.Lists.{in_push}
 use Rattle.terms.specs.declared.cell.Cell.{Cell}
 use Rattle.stores.specs.Rows.{cells_of, decided}
 use Rattle.stores.specs.declared.count.Count.{Count}
 use Rattle.stores.specs.declared.key.Key.{Key}
-use Rattle.serial.specs.Machine.{Pending, is_for, pending_for, enter}
+use Rattle.serial.specs.Machine.{is_for, pending_for, enter}
 use Rattle.ledger.specs.declared.entry.PendingChange.{PendingChange}
 use Rattle.ledger.specs.Words.{change_of, pending_of}
 use Rattle.ledger.specs.Covering.{For}

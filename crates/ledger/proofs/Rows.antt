@@ -1,5 +1,5 @@
 -- Rows that fit a proper pattern are proper, and proper rows can be stored.
-use Rattle.std.proofs.Common.{◌≡◌, ℕ, ◌^◌, ◌<◌, ◌≤◌, Bool, true, false, eqb, List, [], ◌∷◌, ◌++◌, length, Some, None, MatchBool, Option, sym, refl, ap, ◌∙◌, subst, inl, inr, arith}
+use Rattle.std.proofs.Common.{◌≡◌, ℕ, ◌^◌, ◌<◌, ◌≤◌, Bool, true, false, eqb, List, [], ◌∷◌, ◌++◌, length, Some, None, MatchBool, Option, sym, refl, subst, arith}
 use Rattle.std.proofs.ByRecursion.{All-weaker}
 use Rattle.kinds.specs.Meaning.{Meaning, Sound, Value, Under}
 use Rattle.terms.specs.declared.cell.Cell.{Cell}

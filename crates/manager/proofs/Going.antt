@@ -1,20 +1,19 @@
 -- What the loop over the calls keeps.
-use Rattle.std.proofs.Common.{◌≡◌, ℕ, ◌+◌, ◌<◌, ◌≤◌, List, [], ◌∷◌, ◌++◌, map, reverse, length, get_or, take, set, sym, refl, ap, ◌∙◌, subst, ap₂}
+use Rattle.std.proofs.Common.{◌≡◌, ℕ, ◌+◌, ◌<◌, List, [], ◌∷◌, map, reverse, length, get_or, take, set, sym, refl, ap, ◌∙◌, subst, ap₂}
 use mathlib.Core.List.{reverse-append}
 use Rattle.std.proofs.lemmas.List.{take_more, take_more_set, map-append}
 use Rattle.kinds.specs.Meaning.{Meaning}
 use Rattle.maps.specs.Maps.{Map}
 use Rattle.terms.specs.declared.cell.Cell.{Cell}
 use Rattle.terms.specs.Fitting.{Description}
-use Rattle.serial.specs.History.{History, Event, asked}
-use Rattle.serial.specs.Machine.{New}
+use Rattle.serial.specs.History.{History, asked}
 use Rattle.serial.proofs.Ties.{Kept, start, step, serial_of}
 use Rattle.manager.specs.declared.call.Call.{Call}
 use Rattle.manager.specs.declared.call.Answer.{Answer}
 use Rattle.manager.specs.declared.memory.Memory.{Memory}
 use Rattle.manager.specs.declared.state.Manager.{Manager}
 use Rattle.ledger.specs.Words.{language}
-use Rattle.manager.specs.Book.{Book, book_of, state_of, Fixed, Well, Sound}
+use Rattle.manager.specs.Book.{book_of, state_of, Fixed, Well, Sound}
 use Rattle.manager.specs.Calls.{asked_by, told, says, Steps, Made, Ran}
 
 module _ {K : Type 0} (means : K → Meaning) (kind : K) (arities : List ℕ) (first : Map (List Cell)) where

@@ -11,11 +11,10 @@ use Rattle.serial.specs.Language.{Language}
 use Rattle.serial.specs.History as words
 use Rattle.serial.specs.History.{Event.refused, Event.began, Event.reserved, Event.did, Event.committed, Event.abandoned}
 use Rattle.serial.specs.History.{Deed, Deed.looked, Deed.surveyed, Deed.changed}
-use Rattle.serial.specs.Rights.{letter_of, Change, Change.written, Change.struck}
+use Rattle.serial.specs.Rights.{Change, Change.written, Change.struck}
 use Rattle.serial.specs.Machine.{Alike, Does, gone, seen}
 use Rattle.manager.specs.declared.fault.ManagerFault.{ManagerFault}
 use Rattle.manager.specs.Faults.{manager_refusal}
-use Rattle.ledger.specs.declared.entry.Reservation.{Reservation}
 use Rattle.manager.specs.declared.fault.ManagerFault.TheVariants.{Pattern, Store, Planner, TransactionsFull, NumbersSpent, NotOpen, Right, ReservationsFull, NoneFits, NotOwn, Count, NoneWrites, ChangesFull, Conflict}
 use Rattle.ledger.specs.Words.{language, grant_of, pending_of, right_of}
 use Rattle.manager.specs.Book.{Book, state_of}

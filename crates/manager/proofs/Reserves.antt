@@ -1,11 +1,10 @@
 -- The first reservation that a request collides with, from the memory of its roll.
-use Rattle.std.proofs.Common.{◌≡◌, ℕ, suc, ◌<◌, ◌≤◌, List, [], ◌∷◌, ◌++◌, map, length, get_or, take, sym, refl, ap, ◌∙◌, subst, arith}
+use Rattle.std.proofs.Common.{◌≡◌, ℕ, ◌<◌, ◌≤◌, List, length, get_or, take, sym, refl, ap, ◌∙◌, subst, arith}
 use Rattle.std.proofs.lemmas.List.{get_or-take, get_or_default, length-take-le}
 use Rattle.kinds.specs.Meaning.{Meaning}
 use Rattle.maps.specs.Maps.{In}
 use Rattle.rolls.proofs.Entries.{at_in}
 use Rattle.terms.specs.Fitting.{Description, described}
-use Rattle.compare.specs.declared.sample.Sample.{Sample}
 use Rattle.serial.specs.Rights as rights
 use Rattle.serial.specs.Rights.{letter_of}
 use Rattle.ledger.specs.declared.clash.Clash.{Clash}

@@ -1,11 +1,11 @@
 -- What each call makes of the book keeps it sound.
-use Rattle.std.proofs.Common.{◌≡◌, ℕ, suc, ◌+◌, ◌<◌, ◌≤◌, Bool, true, false, cond, not, eqb, ◌⊎◌, List, [], ◌∷◌, ◌++◌, map, length, take, Ok, Err, filter, Result, sym, refl, ap, ◌∙◌, subst, inl, inr, ⊎_elim, arith}
+use Rattle.std.proofs.Common.{◌≡◌, ℕ, suc, ◌+◌, ◌<◌, ◌≤◌, Bool, true, false, cond, not, eqb, List, [], ◌∷◌, ◌++◌, map, length, take, Ok, Err, filter, Result, sym, subst, ⊎_elim, arith}
 use mathlib.Core.Logic.{by_cases}
 use Rattle.std.proofs.lemmas.List.{map-append}
 use Rattle.kinds.specs.Meaning.{Meaning}
 use Rattle.maps.specs.Maps.{In, Once}
 use Rattle.maps.proofs.Lists.{in_push, in_kept, once_append, in_map, map_kept}
-use Rattle.rolls.specs.Rolls.{Pushed, without}
+use Rattle.rolls.specs.Rolls.{Pushed}
 use Rattle.rolls.specs.declared.roll.Full.{Full}
 use Rattle.serial.specs.Machine.{KeysOnce}
 use Rattle.serial.proofs.Rolls.{keys_kept}

@@ -1,5 +1,5 @@
 -- Calls and answers in the words of the serial order, one call's promise, and the promise of a whole run.
-use Rattle.std.specs.Prelude.{◌≡◌, ℕ, min, ◌⊎◌, List, [], ◌∷◌, map, reverse, length, take, Ok, Err, Option, Result}
+use Rattle.std.specs.Prelude.{◌≡◌, ℕ, min, List, [], ◌∷◌, map, reverse, length, take, Option, Result}
 use Rattle.std.specs.Option.{option_map}
 use Rattle.refusals.specs.Places.{FirstFault}
 use Rattle.kinds.specs.Meaning.{Meaning}
@@ -11,7 +11,6 @@ use Rattle.terms.specs.Proper.{Arities}
 use Rattle.compare.specs.declared.sample.Sample.{Sample}
 use Rattle.stores.specs.Means.{count_of}
 use Rattle.serial.specs.Language.{Language}
-use Rattle.serial.specs.Rights.{Change.written, Change.struck}
 use Rattle.serial.specs.History as words
 use Rattle.serial.specs.History.{Event, History, asked}
 use Rattle.serial.specs.History.{Event.refused, Event.began, Event.reserved, Event.did, Event.committed, Event.abandoned}

@@ -9,7 +9,6 @@ use Rattle.terms.specs.Reading.{CellsRefused, ConstraintsRefused}
 use Rattle.compare.specs.declared.sample.Sample.{Sample}
 use Rattle.serial.specs.Rights as rights
 use Rattle.serial.specs.Rights.{letter_of}
-use Rattle.serial.specs.History.{Grant}
 use Rattle.ledger.specs.declared.entry.Reservation.{Reservation}
 use Rattle.ledger.specs.declared.entry.Right.{Right as Rightᵗ}
 use Rattle.manager.specs.declared.fault.ManagerFault.{ManagerFault}

@@ -1,14 +1,14 @@
 -- The scan of cells: what the cells before a place, and the cell at it, say of all proper cells.
-use Rattle.std.proofs.Common.{◌≡◌, ℕ, zero, suc, ◌+◌, ◌-◌, ◌<◌, ◌≤◌, ◌⊎◌, List, [], ◌∷◌, ◌++◌, length, get_or, take, drop, replicate, sym, refl, ap, ◌∙◌, subst, inl, inr, arith}
+use Rattle.std.proofs.Common.{◌≡◌, ℕ, zero, suc, ◌+◌, ◌-◌, ◌<◌, ◌≤◌, ◌⊎◌, List, [], ◌∷◌, ◌++◌, length, get_or, take, drop, replicate, sym, refl, ap, ◌∙◌, subst, inr, arith}
 use mathlib.Core.Logic.{⊎_map}
 use Rattle.std.specs.List.{AllByRecursion as All}
 use Rattle.std.proofs.lemmas.List.{take_more, take-append-drop, take_at, take_all, length-take, length-take-le, length-drop, length-append, length-replicate, get_or_default, get_or_past}
-use Rattle.std.proofs.ByRecursion.{All-append, All-take, All-get_or, All-more}
+use Rattle.std.proofs.ByRecursion.{All-append, All-get_or, All-more}
 use Rattle.refusals.specs.Places.{FirstFault}
 use Rattle.refusals.proofs.Places.{agrees_at}
 use Rattle.kinds.specs.Meaning.{Meaning}
 use Rattle.terms.specs.declared.cell.Cell.{Cell}
-use Rattle.terms.specs.Terms.{arity, Leaves, Are, Fine, Starts, Term}
+use Rattle.terms.specs.Terms.{arity, Leaves, Fine, Starts}
 use Rattle.terms.specs.Proper.{SmallTerm}
 use Rattle.terms.specs.Reading.{Goes_on, Stray, CellsRefused}
 use Rattle.terms.specs.declared.fault.PatternFault.{PatternFault}

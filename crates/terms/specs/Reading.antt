@@ -1,7 +1,7 @@
 -- What a check of cells, of constraints and of arities answers: passed exactly where they are proper, and else the first fault.
-use Rattle.std.specs.Prelude.{◌≡◌, ℕ, ◌+◌, ◌-◌, ◌<◌, ◌≤◌, ◌⊎◌, List, length, get_or, Ok, Err, Result, slice_index_or}
+use Rattle.std.specs.Prelude.{◌≡◌, ℕ, ◌+◌, ◌-◌, ◌<◌, ◌≤◌, ◌⊎◌, List, get_or, Ok, Err, Result, slice_index_or}
 use Rattle.refusals.specs.Places.{FirstFault}
-use Rattle.kinds.specs.Meaning.{Meaning, Value, Known}
+use Rattle.kinds.specs.Meaning.{Meaning, Value}
 use Rattle.kinds.specs.declared.fault.BankFault.TheVariants.{Value as BadValue, Condition as BadCondition}
 use Rattle.terms.specs.declared.cell.Cell.{Cell}
 use Rattle.terms.specs.declared.constraint.Constraint.{Constraint as Constraintᵗ}
@@ -12,8 +12,8 @@ use Rattle.terms.specs.declared.row.Row.{Row as Rowᵗ}
 use Rattle.terms.specs.declared.shape.Shape.{Shape}
 use Rattle.terms.specs.declared.signature.Signature.{Signature}
 use Rattle.terms.specs.Terms.{arity, Fine}
-use Rattle.terms.specs.Fitting.{Description, described, cells_of}
-use Rattle.terms.specs.Proper.{Arities, SmallTerm, RowCells, PatternCells, Constrains, Constraints, ProperPattern}
+use Rattle.terms.specs.Fitting.{described, cells_of}
+use Rattle.terms.specs.Proper.{Arities, RowCells, PatternCells, Constraints, ProperPattern}
 use Rattle.terms.specs.Shapes.{limit, variables}
 
 -- the cell has a value letter, and is no value

@@ -1,5 +1,5 @@
 -- Terms as their cells in order, a symbol before its arguments; and substitution.
-use Rattle.std.specs.Prelude.{◌≡◌, ℕ, zero, suc, ◌+◌, ◌<◌, Bool, true, false, cond, List, [], ◌∷◌, ◌++◌, MatchBool, ◌==◌, slice_index}
+use Rattle.std.specs.Prelude.{◌≡◌, ℕ, zero, suc, ◌+◌, ◌<◌, cond, List, [], ◌∷◌, ◌++◌, MatchBool, ◌==◌, slice_index}
 use Rattle.std.specs.List.{AllByRecursion as All}
 use Rattle.kinds.specs.Meaning.{Meaning, Value}
 use Rattle.terms.specs.declared.cell.Cell.{Cell}

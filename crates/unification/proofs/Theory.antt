@@ -5,7 +5,7 @@ use Rattle.std.proofs.lemmas.Bool.Decides.{eqb_tells}
 use Rattle.std.proofs.lemmas.Bool.{eq-eqb, ne_eqb}
 use Rattle.terms.specs.declared.cell.Cell.{Cell}
 use Rattle.terms.specs.Terms.{arity, Are, Subst, image, apply}
-use Rattle.unification.specs.Fronts.{Begins, terms, after, at}
+use Rattle.unification.specs.Fronts.{Begins, terms, after}
 use Rattle.unification.specs.Unifiers.{Assign, var, Unifies, MostGeneral, Replacement, single, sequence}
 use Rattle.unification.specs.Sequences.{Lacks, Apart, Proper, Solves}
 

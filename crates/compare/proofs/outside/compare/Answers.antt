@@ -2,7 +2,6 @@ use Rattle.std.proofs.Common.{◌≡◌, ℕ, List, subst, rules}
 use Rattle.kinds.specs.Meaning.{Meaning}
 use Rattle.terms.specs.Fitting.{Description, described}
 use Rattle.terms.specs.Proper.{Arities, ProperPattern}
-use Rattle.unification.specs.Sheets.{blank}
 use Rattle.compare.specs.declared.sample.Common.{Common}
 use Rattle.compare.specs.Answers.{CommonPart}
 use Rattle.compare.specs.Outside.{Accepted}

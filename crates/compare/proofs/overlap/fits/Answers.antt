@@ -1,7 +1,6 @@
 use Rattle.std.proofs.Common.{Bool, Decides, sym, subst, MatchOption}
 use Rattle.terms.specs.Fitting.{Description, described, cells_of, Fits}
 use Rattle.terms.specs.Proper.{ProperPattern}
-use Rattle.unification.specs.Sheets.{blank}
 use Rattle.unification.specs.Pairs.{Overlap}
 use Rattle.compare.specs.Answers.{CommonPart}
 use Rattle.compare.proofs.Alone.{alone_proper, fits_told}

@@ -1,4 +1,4 @@
-use Rattle.std.proofs.Common.{◌≡◌, take, is_some, Some, None, sym, ap, ◌∙◌, take_all}
+use Rattle.std.proofs.Common.{◌≡◌, is_some, Some, sym, ap, ◌∙◌, take_all}
 use Rattle.std.proofs.ByRecursion.{All-more}
 use Rattle.std.proofs.lemmas.Bool.{false≢true}
 use Rattle.kinds.specs.declared.condition.Condition.{Condition}

@@ -1,4 +1,4 @@
-use Rattle.std.proofs.Common.{◌≡◌, sym, ◌∙◌, subst}
+use Rattle.std.proofs.Common.{sym, ◌∙◌, subst}
 use Rattle.stores.specs.Rows.{cells_of}
 use Rattle.std.proofs.lemmas.List.{get_or_default}
 use Rattle.ledger.specs.Covering.{For}

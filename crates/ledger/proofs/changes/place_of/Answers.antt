@@ -1,4 +1,4 @@
-use Rattle.std.proofs.Common.{◌≡◌, false, sym, refl, ◌∙◌}
+use Rattle.std.proofs.Common.{false, refl}
 use Rattle.std.proofs.lemmas.Bool.{both_ways}
 use Rattle.rolls.proofs.Entries.{none_more, none_all}
 use Rattle.stores.specs.Rows.{cells_of}

@@ -1,4 +1,4 @@
-use Rattle.std.proofs.Common.{◌≡◌, sym, subst}
+use Rattle.std.proofs.Common.{sym, subst}
 use Rattle.maps.specs.Maps.{In}
 use Rattle.terms.specs.Fitting.{described}
 use Rattle.rolls.proofs.Entries.{at_in, none_more, none_all}

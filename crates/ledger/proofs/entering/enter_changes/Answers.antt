@@ -1,4 +1,4 @@
-use Rattle.std.proofs.Common.{◌≡◌, ◌+◌, ◌<◌, ◌≤◌, length, refl, ◌∙◌, arith}
+use Rattle.std.proofs.Common.{◌+◌, ◌<◌, ◌≤◌, length, refl, ◌∙◌, arith}
 use Rattle.ledger.proofs.Passes.{lacks, at_most, has_room, both_passes}
 use Rattle.ledger.proofs.entering.enter_changes.Goals as goal
 

@@ -1,4 +1,4 @@
-use Rattle.std.proofs.Common.{◌≡◌, sym, refl, subst}
+use Rattle.std.proofs.Common.{sym, refl, subst}
 use Rattle.maps.specs.Maps.{In}
 use Rattle.rolls.proofs.Entries.{at_in, none_more, none_all}
 use Rattle.ledger.specs.Counting.{Own}

@@ -1,4 +1,4 @@
-use Rattle.std.proofs.Common.{◌≡◌, false, sym, refl, subst}
+use Rattle.std.proofs.Common.{false, sym, refl, subst}
 use Rattle.std.proofs.lemmas.Bool.{both_ways}
 use Rattle.maps.specs.Maps.{In}
 use Rattle.terms.specs.Fitting.{cells_of}

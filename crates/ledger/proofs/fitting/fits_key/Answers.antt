@@ -1,4 +1,4 @@
-use Rattle.std.proofs.Common.{◌≡◌, false, length, refl, subst}
+use Rattle.std.proofs.Common.{false, refl, subst}
 use Rattle.std.proofs.lemmas.Bool.{both_ways}
 use Rattle.refusals.proofs.Places.{first_improper}
 use Rattle.terms.specs.Fitting.{Fits, described}

@@ -1,4 +1,4 @@
-use Rattle.std.proofs.Common.{◌≡◌, ◌<◌, min, length, take, sym, refl, ap, ◌∙◌, subst, arith}
+use Rattle.std.proofs.Common.{◌≡◌, ◌<◌, min, length, take, refl, ap, ◌∙◌, subst, arith}
 use Rattle.ledger.specs.Words.{language}
 use Rattle.manager.specs.Calls.{Ran}
 use Rattle.manager.proofs.Going.{going_start, going_next, going_ran}

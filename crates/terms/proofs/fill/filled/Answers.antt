@@ -1,4 +1,4 @@
-use Rattle.std.proofs.Common.{◌≤◌, length, replicate, arith}
+use Rattle.std.proofs.Common.{replicate, arith}
 use Rattle.std.proofs.lemmas.List.{length-replicate}
 use Rattle.terms.proofs.Firsts.{filled_more, filled_all}
 use Rattle.terms.proofs.fill.filled.Goals as goal

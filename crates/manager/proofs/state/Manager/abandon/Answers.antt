@@ -1,4 +1,3 @@
-use Rattle.std.proofs.Common.{refl}
 use Rattle.manager.specs.Book.{Fixed, book_of}
 use Rattle.manager.proofs.Sounds.{fixed_sound, sound_ended}
 use Rattle.manager.proofs.state.Manager.abandon.Goals as goal

@@ -1,4 +1,4 @@
-use Rattle.std.proofs.Common.{refl, ap}
+use Rattle.std.proofs.Common.{ap}
 use Rattle.ledger.specs.Words.{language}
 use Rattle.manager.specs.Book.{book_of}
 use Rattle.manager.proofs.Moved.{refused_steps, commit_steps}

@@ -1,4 +1,3 @@
-use Rattle.std.proofs.Common.{refl}
 use Rattle.manager.specs.Book.{book_of}
 use Rattle.manager.proofs.Moved.{reserve_steps, reserve_refused}
 use Rattle.manager.proofs.state.Manager.answer_reserve.Goals as goal

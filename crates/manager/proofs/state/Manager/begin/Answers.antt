@@ -1,9 +1,9 @@
-use Rattle.std.proofs.Common.{◌≡◌, ◌+◌, ◌<◌, length, take, sym, refl, ap, ◌∙◌, add-one, arith}
+use Rattle.std.proofs.Common.{◌+◌, ◌<◌, length, take, refl, ap, ◌∙◌, add-one, arith}
 use Rattle.std.proofs.lemmas.List.{length-take-le}
 use Rattle.ledger.specs.declared.entry.Transaction.{Transaction}
 use Rattle.manager.specs.Book.{Book, book_of}
 use Rattle.manager.specs.Ending.{Begun}
-use Rattle.manager.proofs.Sounds.{pushed_there, book_same, sound_begun}
+use Rattle.manager.proofs.Sounds.{pushed_there, sound_begun}
 use Rattle.manager.proofs.state.Manager.begin.Goals as goal
 
 pub returns : goal.returns

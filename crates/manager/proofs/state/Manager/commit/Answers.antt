@@ -1,4 +1,4 @@
-use Rattle.std.proofs.Common.{◌≡◌, ◌+◌, ◌<◌, ap, ◌∙◌, add-one, arith}
+use Rattle.std.proofs.Common.{◌≡◌, ◌+◌, ap, ◌∙◌, add-one, arith}
 use Rattle.manager.specs.Book.{Book, Fixed, book_of}
 use Rattle.manager.specs.Ending.{ended}
 use Rattle.manager.proofs.Sounds.{fixed_sound, sound_ended}

@@ -1,4 +1,4 @@
-use Rattle.std.proofs.Common.{length, refl, ◌∙◌, arith}
+use Rattle.std.proofs.Common.{refl, ◌∙◌, arith}
 use Rattle.ledger.specs.declared.entry.Transaction.{Transaction}
 use Rattle.manager.specs.Book.{book_of}
 use Rattle.manager.proofs.Opens.{fewer}

@@ -1,4 +1,4 @@
-use Rattle.std.proofs.Common.{◌≡◌, Bool, true, false, List, Decides, MatchBool, sym, ap, subst}
+use Rattle.std.proofs.Common.{Bool, true, false, List, Decides, MatchBool, subst}
 use Rattle.terms.specs.Fitting.{cells_of}
 use Rattle.ledger.specs.declared.entry.Reservation.{Reservation}
 use Rattle.ledger.specs.Covering.{Covered}

@@ -1,4 +1,4 @@
-use Rattle.std.proofs.Common.{◌≡◌, List, subst, MatchOption}
+use Rattle.std.proofs.Common.{List, subst, MatchOption}
 use Rattle.maps.specs.Maps.{In}
 use Rattle.terms.specs.Fitting.{described}
 use Rattle.ledger.specs.declared.entry.Reservation.{Reservation}

@@ -1,4 +1,4 @@
-use Rattle.std.proofs.Common.{◌≡◌, List, subst, MatchOption}
+use Rattle.std.proofs.Common.{List, subst, MatchOption}
 use Rattle.maps.specs.Maps.{In}
 use Rattle.stores.specs.Rows.{cells_of}
 use Rattle.ledger.specs.declared.entry.PendingChange.{PendingChange}

@@ -1,4 +1,4 @@
-use Rattle.std.proofs.Common.{◌≡◌, sym, subst}
+use Rattle.std.proofs.Common.{sym, subst}
 use Rattle.maps.specs.Maps.{Figures}
 use Rattle.terms.specs.declared.pattern.Pattern.{Pattern}
 use Rattle.terms.specs.Fitting.{Fits, described}

@@ -1,4 +1,4 @@
-use Rattle.std.proofs.Common.{◌≡◌, ◌-◌, List, [], length, ap, ◌∙◌}
+use Rattle.std.proofs.Common.{◌-◌, List, [], length, ap, ◌∙◌}
 use Rattle.terms.specs.declared.cell.Cell.{Cell}
 use Rattle.terms.specs.Fitting.{Description}
 use Rattle.terms.proofs.Firsts.{filled_front}
