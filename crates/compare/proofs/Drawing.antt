@@ -1,6 +1,6 @@
 -- A sample from the values of the classes.
 use Rattle.std.proofs.Common.{◌≡◌, ℕ, zero, suc, ◌+◌, ◌-◌, ◌<◌, ◌≤◌, min, Bool, ltb, List, [], ◌∷◌, ◌++◌, length, get_or, take, drop, replicate, MatchBool, sym, ap, ◌∙◌, subst, inl, inr, append-nil, arith}
-use Rattle.std.specs.List.{AllByRecursion as All}
+use Rattle.std.specs.List.{AllByRecursion}
 use Rattle.std.proofs.ByRecursion.{All-get_or, All-from_get_or}
 use Rattle.std.proofs.lemmas.List.{get_or_default, get_or_past, take-append-drop, take-append-le, take_all, drop-replicate, take-replicate}
 use Rattle.std.proofs.lemmas.Bool.{cases_lt, lt-ltb, le-ltb}
@@ -147,7 +147,7 @@ module _ (M : Meaning) (cells : List Cell) (roots : List Root) (ks : List Constr
       }
 
     -- the solution that has the fills at the free variables
-    pub drawn : get_or sig 0 0 ≡ 0 → All (Fine M 16) cells → (s : Sample)
+    pub drawn : get_or sig 0 0 ≡ 0 → AllByRecursion (Fine M 16) cells → (s : Sample)
         → ((σ : Subst) → Assign sig σ → Sol sig cells sheet σ → Fills cells sheet fills σ → Shows s (apply σ (part sig cells 0 1)))
         → Drawn sig M cells sheet ks (sequence bs) s
     drawn z fine s show =

@@ -1,6 +1,6 @@
 -- What the comparison of two patterns on a sheet says of the rows that fit them.
 use Rattle.std.proofs.Common.{◌≡◌, ℕ, ◌-◌, ◌<◌, ◌≤◌, false, List, map, length, drop, replicate, Some, None, Option, sym, ap, ◌∙◌, subst, subst₂, arith, MatchOption}
-use Rattle.std.specs.List.{AllByRecursion as All}
+use Rattle.std.specs.List.{AllByRecursion}
 use Rattle.std.proofs.ByRecursion.{All-get_or, All-weaker}
 use Rattle.std.proofs.lemmas.List.{length-append, length-map}
 use Rattle.kinds.specs.Meaning.{Meaning}
@@ -26,10 +26,10 @@ use Rattle.compare.specs.Roots.{constraint_at}
 use Rattle.compare.specs.Answers.{Shows, Sampled, CommonPart, Unsampled, Drawn}
 
 -- what a pattern's cells and constraints have that can be shifted
-pub small_cells : (sig : List ℕ) (M : Meaning) (p : Description) → ProperPattern sig M p → All (λ c. c.letter ≡ 86 → c.number < 8) p.cells
+pub small_cells : (sig : List ℕ) (M : Meaning) (p : Description) → ProperPattern sig M p → AllByRecursion (λ c. c.letter ≡ 86 → c.number < 8) p.cells
 small_cells sig M p h = All-weaker (Fine M 8) (λ c. c.letter ≡ 86 → c.number < 8) (λ c f. fine_var M 8 c f) p.cells h.cells.term.fine
 
-pub small_constraints : (sig : List ℕ) (M : Meaning) (p : Description) → ProperPattern sig M p → All (λ k. k.variable < 8) p.constraints
+pub small_constraints : (sig : List ℕ) (M : Meaning) (p : Description) → ProperPattern sig M p → AllByRecursion (λ k. k.variable < 8) p.constraints
 small_constraints sig M p h = All-weaker (Constrains M) (λ k. k.variable < 8) (λ k f. f.0) p.constraints h.constraints.each
 
 module _ (sig : List ℕ) (M : Meaning) (left right : Description) (a : ProperPattern sig M left) (b : ProperPattern sig M right)
@@ -43,8 +43,8 @@ module _ (sig : List ℕ) (M : Meaning) (left right : Description) (a : ProperPa
   pub good_both : Good sig cells
   good_both = good sig left.cells right.cells cells use_left use_right is
 
-  pub fine_both : All (Fine M 16) cells
-  fine_both = subst (All (Fine M 16)) (sym is) (pair_fine M left.cells right.cells a.cells.term.fine b.cells.term.fine)
+  pub fine_both : AllByRecursion (Fine M 16) cells
+  fine_both = subst (AllByRecursion (Fine M 16)) (sym is) (pair_fine M left.cells right.cells a.cells.term.fine b.cells.term.fine)
 
   pub some_cells : 0 < length cells
   some_cells = inside_left sig left.cells right.cells cells use_left use_right is
@@ -82,7 +82,7 @@ module _ (sig : List ℕ) (M : Meaning) (left right : Description) (a : ProperPa
     pub named_both : (k : ℕ) → k < length ks → (constraint_at ks k).variable < 16
     named_both k l =
         All-get_or (λ k. k.variable < 16) ks k (record { variable = 0; condition = record { form = 0; a = 0; b = 0 } }) l
-        (subst (All (λ k. k.variable < 16)) (sym ki) (pair_named M left.constraints right.constraints a.constraints.each b.constraints.each))
+        (subst (AllByRecursion (λ k. k.variable < 16)) (sym ki) (pair_named M left.constraints right.constraints a.constraints.each b.constraints.each))
 
     module _ (before behind : List Cell) (blank_before : Blank before) (merged : Merged sig cells before behind 0 n 1) where
       merged_here : Merged sig cells before behind 0 (length left.cells) 1
@@ -97,7 +97,7 @@ module _ (sig : List ℕ) (M : Meaning) (left right : Description) (a : ProperPa
       shared_drawn μ s d = record {
         ground = d.ground;
         unifies = levels sig left.cells right.cells cells use_left use_right is d.choice (merged_here.sound d.choice (λ x. (d.ground x).0) d.solves).1;
-        meets = subst (All (λ k. Satisfies M k.condition (d.choice k.variable))) ki d.meets;
+        meets = subst (AllByRecursion (λ k. Satisfies M k.condition (d.choice k.variable))) ki d.meets;
       }
 
       sampled : (μ : Subst) (s : Sample) → Drawn sig M cells behind ks μ s → Sampled sig M left right μ s
@@ -118,11 +118,11 @@ module _ (sig : List ℕ) (M : Meaning) (left right : Description) (a : ProperPa
           (σ, s.1, sym s.2 ∙ sym (apply_comp σ μ left.cells ∙ apply_ext (λ x. apply σ (μ x)) σ (m.general σ (λ x. (s.1.ground x).0) s.1.unifies) left.cells))
 
       pub told : (o : Option Common)
-          → MatchOption o (Unsampled sig M cells behind ks) (λ c. Ordered sig cells behind (replacements sig cells n c.bindings) × All (WithinPatterns n (length cells - n)) c.bindings × Drawn sig M cells behind ks (sequence (replacements sig cells n c.bindings)) c.sample)
+          → MatchOption o (Unsampled sig M cells behind ks) (λ c. Ordered sig cells behind (replacements sig cells n c.bindings) × AllByRecursion (WithinPatterns n (length cells - n)) c.bindings × Drawn sig M cells behind ks (sequence (replacements sig cells n c.bindings)) c.sample)
           → MatchOption o (Overlap sig M left right → ⊥) (λ c. CommonPart sig M left right c)
       told None h = λ o.
           let s = choice_for o in
-          h s.0 (λ x. (s.1.ground x).0) (solves_here s.0 s.1) (subst (All (λ k. Satisfies M k.condition (s.0 k.variable))) (sym ki) s.1.meets)
+          h s.0 (λ x. (s.1.ground x).0) (solves_here s.0 s.1) (subst (AllByRecursion (λ k. Satisfies M k.condition (s.0 k.variable))) (sym ki) s.1.meets)
       told (Some c) h =
           let u : sequence (replacements sig cells n c.bindings) ≡ unifier sig left right c.bindings =
           ap (λ (cs : List Cell). sequence (replacements sig cs n c.bindings)) is
@@ -132,7 +132,7 @@ module _ (sig : List ℕ) (M : Meaning) (left right : Description) (a : ProperPa
           let general_named : MostGeneral sig (unifier sig left right c.bindings) left.cells (map shifted right.cells) =
           subst (λ (μ : Subst). MostGeneral sig μ left.cells (map shifted right.cells)) u general in
           record {
-            within = subst₂ (λ (k m : ℕ). All (WithinPatterns k m) c.bindings) at_n right_cells h.1;
+            within = subst₂ (λ (k m : ℕ). AllByRecursion (WithinPatterns k m) c.bindings) at_n right_cells h.1;
             general = general_named;
             every = every (unifier sig left right c.bindings) general_named;
             sampled = sampled (unifier sig left right c.bindings) c.sample (subst (λ (μ : Subst). Drawn sig M cells behind ks μ c.sample) u h.2);

@@ -8,7 +8,7 @@ use Rattle.compare.specs.declared.binding.Binding.{Binding}
 use Rattle.compare.specs.declared.binding.Side.{Side}
 use Rattle.compare.specs.declared.binding.Side.TheVariants.{Left, Right}
 use Rattle.compare.specs.Bindings.{joint, place_of, CellWithin, WithinPatterns, replacements}
-use Rattle.std.specs.List.{AllByRecursion as All}
+use Rattle.std.specs.List.{AllByRecursion}
 
 -- a part from the start
 pub from_start : {A : Type 0} (xs : List A) (n : ℕ) → take (n - 0) xs ≡ take n xs
@@ -37,7 +37,7 @@ replacements_none sig cells n (suc m) zero = replacements_none sig cells n m zer
 replacements_none sig cells n (suc m) (suc k) = replacements_none sig cells n m k
 
 -- bindings that are not there name nothing, and a cell within a pattern is within a larger one
-pub none_within : (n m k : ℕ) → All (WithinPatterns n m) (replicate k None)
+pub none_within : (n m k : ℕ) → AllByRecursion (WithinPatterns n m) (replicate k None)
 none_within n m zero = tt
 none_within n m (suc k) = (tt, none_within n m k)
 

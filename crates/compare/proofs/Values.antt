@@ -1,6 +1,6 @@
 -- Values for the classes of variables: what one constraint adds, and what the values say of the solutions of a sheet.
 use Rattle.std.proofs.Common.{◌≡◌, ℕ, zero, suc, ◌+◌, ◌<◌, ◌≤◌, Bool, true, false, cond, ◌⊎◌, List, [], ◌∷◌, length, get_or, drop, set, sym, refl, ap, ◌∙◌, subst, inl, inr, arith, length-set, below_more}
-use Rattle.std.specs.List.{AllByRecursion as All}
+use Rattle.std.specs.List.{AllByRecursion}
 use Rattle.std.proofs.ByRecursion.{All-get_or, All-from_get_or}
 use Rattle.std.proofs.lemmas.List.{get_or-set_same, get_or-set_other}
 use Rattle.std.proofs.lemmas.Bool.{eq-eqb, ne_eqb, eqb-true, true≢false, false≢true}
@@ -120,10 +120,10 @@ module _ (M : Meaning) (cells : List Cell) (roots : List Root) (ks : List Constr
     root_is : (k : ℕ) → k < length ks → RootOf sig cells sheet (constraint_at ks k).variable (root_of M cells roots ks k)
     root_is k l = rooted (constraint_at ks k).variable (named k l)
 
-    met_at : (σ : Subst) → All (MetBy σ) ks → (k : ℕ) → k < length ks → MetBy σ (constraint_at ks k)
+    met_at : (σ : Subst) → AllByRecursion (MetBy σ) ks → (k : ℕ) → k < length ks → MetBy σ (constraint_at ks k)
     met_at σ m k l = All-get_or (MetBy σ) ks k (record { variable = 0; condition = record { form = 0; a = 0; b = 0 } }) l m
 
-    no_fail : (σ : Subst) → Sol sig cells sheet σ → All (MetBy σ) ks → (i : ℕ) → i < length ks → (r : Root) → root_of M cells roots ks i ≡ r
+    no_fail : (σ : Subst) → Sol sig cells sheet σ → AllByRecursion (MetBy σ) ks → (i : ℕ) → i < length ks → (r : Root) → root_of M cells roots ks i ≡ r
         → RootOf sig cells sheet (constraint_at ks i).variable r → Fails M cells roots ks (constraint_at ks i).condition r → ⊥
     no_fail σ s m i h (Variable y) e ro f =
         let one = met_at σ m i h in
@@ -145,7 +145,7 @@ module _ (M : Meaning) (cells : List Cell) (roots : List Root) (ks : List Constr
         f (subst (λ (z : Cell). Met M (constraint_at ks i).condition z.letter z.number) (sym d) one.3)
 
     -- where some constraint cannot be met, no solution meets them all
-    pub unmet : Unmet M cells roots ks → (σ : Subst) → Sol sig cells sheet σ → All (MetBy σ) ks → ⊥
+    pub unmet : Unmet M cells roots ks → (σ : Subst) → Sol sig cells sheet σ → AllByRecursion (MetBy σ) ks → ⊥
     unmet u σ s m = no_fail σ s m u.0 u.1 (root_of M cells roots ks u.0) refl (root_is u.0 u.1) u.2
 
     met_one : Sound M → (fills : List Cell) (σ : Subst) → Sol sig cells sheet σ → Fills cells sheet fills σ → (k : ℕ) → k < length ks → (r : Root) → root_of M cells roots ks k ≡ r
@@ -168,6 +168,6 @@ module _ (M : Meaning) (cells : List Cell) (roots : List Root) (ks : List Constr
         )
 
     -- where they are settled, a solution with the fills meets them
-    pub met_all : Sound M → (fills : List Cell) → Settled M cells roots ks fills (length ks) → (σ : Subst) → Sol sig cells sheet σ → Fills cells sheet fills σ → All (MetBy σ) ks
+    pub met_all : Sound M → (fills : List Cell) → Settled M cells roots ks fills (length ks) → (σ : Subst) → Sol sig cells sheet σ → Fills cells sheet fills σ → AllByRecursion (MetBy σ) ks
     met_all sound fills t σ s f = All-from_get_or (MetBy σ) ks (record { variable = 0; condition = record { form = 0; a = 0; b = 0 } })
         (λ k l. met_one sound fills σ s f k l (root_of M cells roots ks k) refl (root_is k l) (t.each k l))

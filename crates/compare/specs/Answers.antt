@@ -1,6 +1,6 @@
 -- What a comparison of two patterns answers.
 use Rattle.std.specs.Prelude.{◌≡◌, ℕ, ◌<◌, ◌≤◌, List, [], ◌∷◌, ◌++◌, map, length, take, replicate, MatchBool}
-use Rattle.std.specs.List.{AllByRecursion as All}
+use Rattle.std.specs.List.{AllByRecursion}
 use Rattle.kinds.specs.Meaning.{Meaning}
 use Rattle.terms.specs.declared.cell.Cell.{Cell}
 use Rattle.terms.specs.declared.constraint.Constraint.{Constraint}
@@ -32,7 +32,7 @@ pub record Sampled (sig : List ℕ) (M : Meaning) (left right : Description) (μ
 -- The bindings name variables and cells of the patterns, and in sequence are a most general unifier; each row that fits both patterns is the unified term under a choice that both share;
 -- and the sample is of such a row.
 pub record CommonPart (sig : List ℕ) (M : Meaning) (left right : Description) (a : Common) : Type 0 where
-  pub within : All (WithinPatterns (length left.cells) (length right.cells)) a.bindings
+  pub within : AllByRecursion (WithinPatterns (length left.cells) (length right.cells)) a.bindings
   pub general : MostGeneral sig (unifier sig left right a.bindings) left.cells (map shifted right.cells)
   pub every : (row : List Cell) → Fits sig M row left → Fits sig M row right
       → (σ : Subst) × Shared sig M left right σ × (row ≡ apply σ (apply (unifier sig left right a.bindings) left.cells))
@@ -42,13 +42,13 @@ pub record CommonPart (sig : List ℕ) (M : Meaning) (left right : Description) 
 module _ (sig : List ℕ) (M : Meaning) (cells sheet : List Cell) (ks : List Constraint) where
   -- no solution meets the constraints
   abbrev pub Unsampled : Type 0
-  Unsampled = (σ : Subst) → Assign sig σ → Sol sig cells sheet σ → All (λ k. Satisfies M k.condition (σ k.variable)) ks → ⊥
+  Unsampled = (σ : Subst) → Assign sig σ → Sol sig cells sheet σ → AllByRecursion (λ k. Satisfies M k.condition (σ k.variable)) ks → ⊥
 
   -- a solution that meets them, the smallest at each variable that μ leaves free
   pub record Drawn (μ : Subst) (s : Sample) : Type 0 where
     pub choice : Subst
     pub ground : (x : ℕ) → Ground sig M (choice x)
     pub solves : Sol sig cells sheet choice
-    pub meets : All (λ k. Satisfies M k.condition (choice k.variable)) ks
+    pub meets : AllByRecursion (λ k. Satisfies M k.condition (choice k.variable)) ks
     pub least : (x : ℕ) → x < 16 → μ x ≡ var x ∷ [] → LeastChoice M μ ks x (choice x)
     pub shows : Shows s (apply choice (part sig cells 0 1))

@@ -1,6 +1,6 @@
 // Two patterns as one list of cells and one list of constraints.
 ghost use Rattle.std.specs.Prelude.{◌≡◌, ◌<◌};
-ghost use Rattle.std.specs.List.{AllByRecursion as All};
+ghost use Rattle.std.specs.List.{AllByRecursion};
 ghost use Rattle.terms.specs.Fitting.{described};
 ghost use Rattle.compare.specs.Joints.{Joined};
 
@@ -21,8 +21,8 @@ pub struct Joint {
 }
 
 pub fn join(left: &Pattern, right: &Pattern) -> Joint
-    requires cells { All (λ c. c.letter ≡ 86 → c.number < 8) (described right.now).cells }
-    requires constraints { All (λ k. k.variable < 8) (described right.now).constraints }
+    requires cells { AllByRecursion (λ c. c.letter ≡ 86 → c.number < 8) (described right.now).cells }
+    requires constraints { AllByRecursion (λ k. k.variable < 8) (described right.now).constraints }
     ensures { Joined (described left.now) (described right.now) result }
 {
     let first = left.cells();

@@ -1,6 +1,6 @@
 // Two patterns laid one behind the other, the right one's variables as 8 to 15.
 ghost use Rattle.std.specs.Prelude.{◌≡◌, ◌+◌, ◌<◌, ◌≤◌, ◌++◌, map, length, take};
-ghost use Rattle.std.specs.List.{AllByRecursion as All};
+ghost use Rattle.std.specs.List.{AllByRecursion};
 ghost use Rattle.unification.specs.Pairs.{shifted as shifted_cell, shifted_constraint};
 
 use terms::cell::Cell;
@@ -52,7 +52,7 @@ impl Shift for Constraint {
 // The left items, the right ones shifted, and blanks after them.
 pub fn lay<T: Shift + Copy, const N: usize>(left: &[T], right: &[T], blank: T) -> [T; N]
     requires few { length left.now + length right.now ≤ N }
-    requires small { All T.Shift.small right.now }
+    requires small { AllByRecursion T.Shift.small right.now }
     ensures { take (length left.now + length right.now) result ≡ left.now ++ map T.Shift.shifted right.now }
 {
     let mut laid = [blank; N];

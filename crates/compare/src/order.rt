@@ -1,6 +1,6 @@
 // The bindings of a sheet, in an order in which they can be applied one after another.
 ghost use Rattle.std.specs.Prelude.{◌≡◌, ℕ, ◌+◌, ◌-◌, ◌<◌, ◌≤◌, false, length, MatchOption, nat_lt, slice_index_or};
-ghost use Rattle.std.specs.List.{AllByRecursion as All};
+ghost use Rattle.std.specs.List.{AllByRecursion};
 ghost use Rattle.unification.specs.Sheets.{entry, Good, Straight};
 ghost use Rattle.unification.specs.Orders.{Ready, Within, Stuck, opens, Unsolved, Ordered};
 ghost use Rattle.compare.specs.Bindings.{joint, place_of, CellWithin, WithinPatterns, replacements};
@@ -133,7 +133,7 @@ pub fn order(
     requires good { Good signature.now.arities cells.now }
     requires long { length sheet.now ≡ 16 }
     requires straight { Straight cells.now sheet.now }
-    ensures { MatchOption result (Unsolved signature.now.arities cells.now sheet.now) (λ out. Ordered signature.now.arities cells.now sheet.now (replacements signature.now.arities cells.now left out) × All (WithinPatterns left (length cells.now - left)) out) }
+    ensures { MatchOption result (Unsolved signature.now.arities cells.now sheet.now) (λ out. Ordered signature.now.arities cells.now sheet.now (replacements signature.now.arities cells.now left out) × AllByRecursion (WithinPatterns left (length cells.now - left)) out) }
 {
     let mut wait = bound_of(cells, sheet);
     let mut to_place = count(wait);

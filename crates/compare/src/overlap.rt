@@ -1,6 +1,6 @@
 // Whether some row fits two patterns.
 ghost use Rattle.std.specs.Prelude.{◌≡◌, ℕ, ◌-◌, ◌<◌, ◌≤◌, length, Decides, MatchOption};
-ghost use Rattle.std.specs.List.{AllByRecursion as All};
+ghost use Rattle.std.specs.List.{AllByRecursion};
 ghost use Rattle.terms.specs.Terms.{Fine};
 ghost use Rattle.terms.specs.Fitting.{described, cells_of, Fits};
 ghost use Rattle.terms.specs.Proper.{ProperPattern, RowCells};
@@ -37,12 +37,12 @@ fn finish<K: Kind>(
     left: usize,
 ) -> Option<Common>
     requires good { Good signature.now.arities cells.now }
-    requires fine { All (Fine (K.Kind.means kind.now) 16) cells.now }
+    requires fine { AllByRecursion (Fine (K.Kind.means kind.now) 16) cells.now }
     requires long { (length sheet.now ≡ 16) × (0 < length cells.now) }
     requires straight { Straight cells.now sheet.now }
     requires few { length constraints.now ≤ 16 }
     requires named { (k : ℕ) → k < length constraints.now → (constraint_at constraints.now k).variable < 16 }
-    ensures { MatchOption result (Unsampled signature.now.arities (K.Kind.means kind.now) cells.now sheet.now constraints.now) (λ common. Ordered signature.now.arities cells.now sheet.now (replacements signature.now.arities cells.now left common.bindings) × All (WithinPatterns left (length cells.now - left)) common.bindings × Drawn signature.now.arities (K.Kind.means kind.now) cells.now sheet.now constraints.now (sequence (replacements signature.now.arities cells.now left common.bindings)) common.sample) }
+    ensures { MatchOption result (Unsampled signature.now.arities (K.Kind.means kind.now) cells.now sheet.now constraints.now) (λ common. Ordered signature.now.arities cells.now sheet.now (replacements signature.now.arities cells.now left common.bindings) × AllByRecursion (WithinPatterns left (length cells.now - left)) common.bindings × Drawn signature.now.arities (K.Kind.means kind.now) cells.now sheet.now constraints.now (sequence (replacements signature.now.arities cells.now left common.bindings)) common.sample) }
 {
     let bindings = order(signature, cells, sheet, left)?;
     let roots = roots_of(signature, cells, sheet);

@@ -1,6 +1,6 @@
 -- What decoding a line finds, step by step.
 use Rattle.std.proofs.Common.{◌≡◌, ℕ, ◌^◌, ◌<◌, ◌≤◌, Bool, true, false, eqb, List, [], ◌∷◌, length, get_or, take, drop, Some, None, MatchBool, Option, sym, refl, ap, ◌∙◌, subst, ⊎_elim, arith}
-use Rattle.std.specs.List.{AllByRecursion as All}
+use Rattle.std.specs.List.{AllByRecursion}
 use Rattle.std.proofs.lemmas.List.{nil_from_length}
 use Rattle.std.proofs.lemmas.Bool.{cases_lt}
 use Rattle.kinds.specs.Meaning.{Meaning, Sound, Value, Under}
@@ -30,7 +30,7 @@ module _ (M : Meaning) (sound : Sound M) where
   fine_short false true c f = absurd (omega arith)
   fine_short false false c f = under_short c.letter (M.tops c.letter) c.number refl f
 
-  all_fine : (cs : List Cell) → All (Fine M 0) cs → All Short cs
+  all_fine : (cs : List Cell) → AllByRecursion (Fine M 0) cs → AllByRecursion Short cs
   all_fine [] f = tt
   all_fine (c ∷ cs) f = (fine_short (eqb c.letter 83) (eqb c.letter 86) c f.0, all_fine cs f.1)
 

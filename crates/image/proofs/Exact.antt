@@ -1,6 +1,6 @@
 -- An image is the text of its places, and of no others.
 use Rattle.std.proofs.Common.{◌≡◌, ℕ, zero, suc, ◌+◌, ◌*◌, ◌<◌, true, false, List, [], ◌∷◌, ◌++◌, length, get_or, take, drop, Some, None, sym, refl, ap, ◌∙◌, subst, ⊎_elim, arith}
-use Rattle.std.specs.List.{AllByRecursion as All}
+use Rattle.std.specs.List.{AllByRecursion}
 use Rattle.std.proofs.ByRecursion.{All-get_or, All-from_get_or}
 use Rattle.std.proofs.lemmas.List.{length-append, length-drop, take_at, drop_at, drop-drop, take-append-drop, same_lists}
 use Rattle.std.proofs.lemmas.Bool.{both_ways}
@@ -70,7 +70,7 @@ apart_pair (p ∷ ps) q zero (suc k) d a jk kl hj hk =
 apart_pair (p ∷ ps) q (suc j) (suc k) d a jk kl hj hk = apart_pair ps q j k d (apart_parts p ps a).1 (omega arith) (omega arith) hj hk
 
 module _ (Row : List Cell → Type 0) (fit : (cs : List Cell) → Row cs → Storable cs) where
-  texts_length : (ps : List Place) → All (Proper Row) ps → length (texts ps) ≡ length ps * 128
+  texts_length : (ps : List Place) → AllByRecursion (Proper Row) ps → length (texts ps) ≡ length ps * 128
   unfolding texts
   texts_length [] a = refl
   texts_length (p ∷ ps) a =
@@ -78,7 +78,7 @@ module _ (Row : List Cell → Type 0) (fit : (cs : List Cell) → Row cs → Sto
       let m = texts_length ps a.1 in
       length-append (text p) (texts ps) ∙ omega arith
 
-  line_texts : (ps : List Place) → All (Proper Row) ps → (k : ℕ) (d : Place) → k < length ps → line k (texts ps) ≡ text (get_or ps k d)
+  line_texts : (ps : List Place) → AllByRecursion (Proper Row) ps → (k : ℕ) (d : Place) → k < length ps → line k (texts ps) ≡ text (get_or ps k d)
   unfolding texts
   line_texts [] a k d h = absurd (omega arith)
   line_texts (p ∷ ps) a zero d h = line_first (text p) (texts ps) (text_length Row fit p a.0)
@@ -122,7 +122,7 @@ module _ (Row : List Cell → Type 0) (fit : (cs : List Cell) → Row cs → Sto
       let l = entries_length xs in
       let w = s.whole in
       let a = s.allowed in
-      let all : All (Proper Row) (entries xs) = All-from_get_or (Proper Row) (entries xs) None (λ k h. subst (Proper Row) (sym (entries_at xs k None (omega arith))) (s.shows k (omega arith)).good) in
+      let all : AllByRecursion (Proper Row) (entries xs) = All-from_get_or (Proper Row) (entries xs) None (λ k h. subst (Proper Row) (sym (entries_at xs k None (omega arith))) (s.shows k (omega arith)).good) in
       record {
         allowed = (omega arith, omega arith);
         proper = all;

@@ -1,6 +1,6 @@
 -- An image and the places that it is the image of, one line for each.
 use Rattle.std.specs.Prelude.{◌≡◌, ℕ, List, [], ◌∷◌, ◌++◌, length}
-use Rattle.std.specs.List.{AllByRecursion as All}
+use Rattle.std.specs.List.{AllByRecursion}
 use Rattle.terms.specs.declared.cell.Cell.{Cell}
 use Rattle.stores.specs.declared.fault.StoreFault.{StoreFault}
 use Rattle.stores.specs.Means.{Allowed}
@@ -17,7 +17,7 @@ texts (p ∷ ps) = text p ++ texts ps
 -- the bytes are the image of the places: 1 to 4,096 proper ones, no row twice
 pub record ImageOf (Row : List Cell → Type 0) (ps : List Place) (xs : List ℕ) : Type 0 where
   pub allowed : Allowed (length ps)
-  pub proper : All (Proper Row) ps
+  pub proper : AllByRecursion (Proper Row) ps
   pub apart : Apart (held ps)
   pub bytes : xs ≡ texts ps
 

@@ -1,6 +1,6 @@
 -- Lines of 128 characters.
 use Rattle.std.specs.Prelude.{◌≡◌, ℕ, zero, suc, ◌*◌, ◌<◌, ◌≤◌, List, [], ◌∷◌, ◌++◌, length, take, drop, Some, None, Option, ◌≢◌}
-use Rattle.std.specs.List.{slice_get, AllByRecursion as All}
+use Rattle.std.specs.List.{slice_get, AllByRecursion}
 use Rattle.terms.specs.declared.cell.Cell.{Cell}
 use Rattle.columns.specs.Columns.{blank, columns, cell_text, Short}
 use Rattle.image.specs.declared.cells.Cells.{Cells}
@@ -11,7 +11,7 @@ found_in r = take r.len r.cells
 
 -- cells with numbers of at most nine digits
 abbrev pub Small : List Cell → Type 0
-Small cs = All Short cs
+Small cs = AllByRecursion Short cs
 
 -- ten columns: a cell, or blank after the row
 abbrev pub slot_text : Option Cell → List ℕ

@@ -1,7 +1,7 @@
 -- The tests of lines are what they are for: what the ghost members of the store cite.
 use Rattle.std.specs.Prelude.{◌≡◌, ℕ, zero, suc, ◌*◌, ◌<◌, ◌≤◌, true, List, length, Some, None, nat_le, nat_lt, refl}
 use Rattle.std.proofs.Common.{sym, subst, ⊎_elim, arith}
-use Rattle.std.specs.List.{AllByRecursion as All}
+use Rattle.std.specs.List.{AllByRecursion}
 use Rattle.std.specs.Str.{bytes_eq}
 use Rattle.std.proofs.lemmas.List.FromFn.{length-map-range_with_len, get_or-map-range_with_len}
 use Rattle.std.proofs.ByRecursion.{All-from_get_or}
@@ -54,7 +54,7 @@ count_small : (p : Place) → Proper Storable p → count_at p ≤ 999999
 count_small None p = omega arith
 count_small (Some h) p = p.1
 
-pub entries_small : (xs : List ℕ) → shown_to (lines_in xs) xs ≡ true → All (λ p. count_at p ≤ 999999) (entries xs)
+pub entries_small : (xs : List ℕ) → shown_to (lines_in xs) xs ≡ true → AllByRecursion (λ p. count_at p ≤ 999999) (entries xs)
 unfolding entries
 entries_small xs e =
     let l = length-map-range_with_len (λ k. meaning (line k xs)) 0 (lines_in xs) in

@@ -1,6 +1,6 @@
 -- The smallest value that meets several conditions.
 use Rattle.std.specs.Prelude.{◌≡◌, ℕ, ◌<◌, ◌≤◌, List, Some, None, Option}
-use Rattle.std.specs.List.{AllByRecursion as All}
+use Rattle.std.specs.List.{AllByRecursion}
 use Rattle.kinds.specs.declared.condition.Condition.{Condition}
 use Rattle.kinds.specs.declared.common.Value.{Value}
 use Rattle.kinds.specs.Meaning.{Meaning}
@@ -11,7 +11,7 @@ Met M q l c = (M.letters q ≡ Some l) × M.holds q c
 
 -- and in the set of each condition of the list
 abbrev pub Meets : Meaning → List Condition → ℕ → ℕ → Type 0
-Meets M qs l c = All (λ q. Met M q l c) qs
+Meets M qs l c = AllByRecursion (λ q. Met M q l c) qs
 
 -- none meets them all; or this one does, and each that does has its letter and no smaller code
 abbrev pub SmallestValue : Meaning → List Condition → Option Value → Type 0
@@ -21,7 +21,7 @@ SmallestValue M qs (Some v) =
 
 -- each condition of the list belongs to the letter l
 abbrev pub OfLetter : Meaning → List Condition → ℕ → Type 0
-OfLetter M qs l = All (λ q. M.letters q ≡ Some l) qs
+OfLetter M qs l = AllByRecursion (λ q. M.letters q ≡ Some l) qs
 
 -- the letter that each condition of the list belongs to; none if there is no such letter
 abbrev pub OneLetter : Meaning → List Condition → Option ℕ → Type 0
@@ -30,7 +30,7 @@ OneLetter M qs (Some l) = OfLetter M qs l
 
 -- the code c is in each set
 abbrev pub Holds : Meaning → List Condition → ℕ → Type 0
-Holds M qs c = All (λ q. M.holds q c) qs
+Holds M qs c = AllByRecursion (λ q. M.holds q c) qs
 
 -- one pass over the sets from v on: `None` if no code from v on is in all; `Some m`: none below m is, and m is above v, or v is in all
 abbrev pub Passed : Meaning → List Condition → ℕ → Option ℕ → Type 0

@@ -13,6 +13,7 @@ use checking::list_rows;
 use command::{Command, read_command};
 use failure::Failure;
 use saving::make_blank;
+use std::process::ExitCode;
 use std::{env, io};
 use working::run_requests;
 
@@ -56,6 +57,10 @@ fn run(rt: &HostRuntime) -> Result<(), Failure> {
     done
 }
 
-fn main(rt: HostRuntime) -> Result<(), Failure> {
-    run(&rt)
+// What went wrong has been said.
+fn main(rt: HostRuntime) -> ExitCode {
+    match run(&rt) {
+        Ok(()) => ExitCode::SUCCESS,
+        Err(_) => ExitCode::FAILURE,
+    }
 }

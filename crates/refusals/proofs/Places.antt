@@ -3,7 +3,7 @@ use Rattle.std.proofs.Common.{◌≡◌, ℕ, ◌+◌, ◌<◌, ◌≤◌, List,
 use Rattle.std.proofs.lemmas.List.{take-take, length-take, get_or-take}
 use Rattle.std.proofs.lemmas.Bool.{cases_order}
 use Rattle.std.proofs.ByRecursion.{All-get_or}
-use Rattle.std.specs.List.{AllByRecursion as All}
+use Rattle.std.specs.List.{AllByRecursion}
 use Rattle.refusals.specs.Places.{FirstFault}
 
 -- what agrees with xs up to place i has that place too, and the same there
@@ -15,7 +15,7 @@ agrees_at xs ys i l e = (
 
 -- Lists of at most `limit` elements, each with P: the first that is not so, or one too many.
 module _ {A : Type 0} (P : A → Type 0) (limit : ℕ) (Proper : List A → Type 0) (few : (ys : List A) → Proper ys → length ys ≤ limit)
-    (each : (ys : List A) → Proper ys → All P ys) where
+    (each : (ys : List A) → Proper ys → AllByRecursion P ys) where
   pub fault_at : (xs : List A) (i : ℕ) (d : A) → i < length xs → Proper (take i xs) → (P (get_or xs i d) → i < limit → ⊥) → FirstFault Proper xs i
   fault_at xs i d l before bad = record {
     within = omega arith;

@@ -1,7 +1,7 @@
 -- The fields of a line that shows what is asked, and that no line shows two things.
 use Rattle.std.proofs.Common.{◌≡◌, ℕ, ◌^◌, ◌<◌, List, ◌∷◌, ◌++◌, map, length, get_or, drop, Some, None, Option, sym, refl, ap, ◌∙◌, arith}
 use Rattle.std.specs.Int.Digits.{number_from_digits}
-use Rattle.std.specs.List.{flat_map, AllByRecursion as All}
+use Rattle.std.specs.List.{flat_map, AllByRecursion}
 use Rattle.std.proofs.lemmas.List.{drop-drop, get_or-drop}
 use Rattle.serial.specs.History.{Call.begin, Call.reserve, Call.look, Call.survey, Call.write, Call.strike, Call.commit, Call.abandon}
 use Rattle.terms.specs.declared.cell.Cell.{Cell}
@@ -24,7 +24,7 @@ Room (Some n) = n < 10 ^ 7
 pub record Fits (f : Fields) : Type 0 where
   pub first : Room f.first
   pub second : Room f.second
-  pub groups : All Short f.groups
+  pub groups : AllByRecursion Short f.groups
 
 pub fits : (a : Ask) → Laid a → Fits (fields a)
 fits None l = record { first = tt; second = tt; groups = tt }
@@ -148,7 +148,7 @@ pub asked_back : (line : List ℕ) (w : Word) (m n r : ℕ) (gs : List Cell) →
     → ((k : ℕ) → k < 10 ^ 7 → front 7 (drop 8 line) ≡ columns 7 k → m ≡ k)
     → ((k : ℕ) → k < 10 ^ 7 → front 7 (drop 15 line) ≡ columns 7 k → n ≡ k)
     → r ≡ get_or line 22 32
-    → ((hs : List Cell) → All Short hs → Alike (drop 23 line) (flat_map cell_text hs) → gs ≡ hs)
+    → ((hs : List Cell) → AllByRecursion Short hs → Alike (drop 23 line) (flat_map cell_text hs) → gs ≡ hs)
     → (a : Ask) → Shows line a → ask_of w m n r gs ≡ a
 asked_back line w m n r gs word first second right groups a s =
     let f = fits a s.0 in

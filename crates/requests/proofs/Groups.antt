@@ -1,6 +1,6 @@
 -- Groups of ten columns: they are read one by one, and what columns show is one list at most.
 use Rattle.std.proofs.Common.{◌≡◌, ℕ, ◌+◌, ◌-◌, ◌<◌, ◌≤◌, cond, eqb, List, [], ◌∷◌, ◌++◌, length, get_or, take, drop, sym, refl, ap, ◌∙◌, subst, arith}
-use Rattle.std.specs.List.{flat_map, AllByRecursion as All}
+use Rattle.std.specs.List.{flat_map, AllByRecursion}
 use Rattle.std.proofs.ByRecursion.{All-append}
 use Rattle.std.proofs.lemmas.List.{append-nil, append_assoc, take_at, drop_at, drop_more, length-drop, nil_from_length}
 use Rattle.std.proofs.lemmas.Bool.{eq-eqb, ne_eqb}
@@ -27,7 +27,7 @@ next_groups line g gs h e = next_columns 10 line (cell_text g) (shown gs) (cell_
 some_group : (g : Cell) (gs : List Cell) → Short g → Alike [] (shown (g ∷ gs)) → ⊥
 some_group g gs h e = cell_marked g h (sym (first_group [] g gs h e))
 
-pub groups_same : (gs hs : List Cell) → All Short gs → All Short hs → Alike (shown gs) (shown hs) → gs ≡ hs
+pub groups_same : (gs hs : List Cell) → AllByRecursion Short gs → AllByRecursion Short hs → Alike (shown gs) (shown hs) → gs ≡ hs
 groups_same [] [] s t e = refl
 groups_same [] (h ∷ hs) s t e = absurd (some_group h hs t.0 e)
 groups_same (g ∷ gs) [] s t e = absurd (some_group g gs s.0 (λ i. sym (e i)))
@@ -41,7 +41,7 @@ groups_same (g ∷ gs) (h ∷ hs) s t e =
 -- some groups were read, and the rest shows the others
 pub record Left (from rest : List ℕ) (done : List Cell) : Type 0 where
   pub marked : Marked rest
-  pub others : (gs : List Cell) → All Short gs → Alike from (shown gs) → (more : List Cell) × All Short more × Alike rest (shown more) × (gs ≡ done ++ more)
+  pub others : (gs : List Cell) → AllByRecursion Short gs → Alike from (shown gs) → (more : List Cell) × AllByRecursion Short more × Alike rest (shown more) × (gs ≡ done ++ more)
 
 pub left_first : (from rest : List ℕ) → Marked rest → Alike rest from → Left from rest []
 left_first from rest m e = record { marked = m; others = λ gs s a. (gs, s, λ i. e i ∙ a i, refl) }
@@ -53,7 +53,7 @@ left_next from rest rest' done g some d reads w = record {
   others = λ gs s a. let o = w.others gs s a in go gs o.0 o.1 o.2 o.3;
 }
   where
-    go : (gs more : List Cell) → All Short more → Alike rest (shown more) → gs ≡ done ++ more → (others : List Cell) × All Short others × Alike rest' (shown others) × (gs ≡ (done ++ (g ∷ [])) ++ others)
+    go : (gs more : List Cell) → AllByRecursion Short more → Alike rest (shown more) → gs ≡ done ++ more → (others : List Cell) × AllByRecursion Short others × Alike rest' (shown others) × (gs ≡ (done ++ (g ∷ [])) ++ others)
     go gs [] s a e = let z = ap length (marked_none rest w.marked a) in absurd (omega arith)
     go gs (h ∷ more) s a e =
         let same : g ≡ h = reads h s.0 (first_group rest h more s.0 a) in (
@@ -63,27 +63,27 @@ left_next from rest rest' done g some d reads w = record {
           e ∙ ap (λ k. done ++ (k ∷ more)) (sym same) ∙ sym (append_assoc done (g ∷ []) more),
         )
 
-pub left_last : (from rest : List ℕ) (done : List Cell) → length rest ≡ 0 → Left from rest done → (gs : List Cell) → All Short gs → Alike from (shown gs) → done ≡ gs
+pub left_last : (from rest : List ℕ) (done : List Cell) → length rest ≡ 0 → Left from rest done → (gs : List Cell) → AllByRecursion Short gs → Alike from (shown gs) → done ≡ gs
 left_last from rest done none w gs s a = let o = w.others gs s a in go o.0 o.1 o.2 o.3
   where
-    go : (more : List Cell) → All Short more → Alike rest (shown more) → gs ≡ done ++ more → done ≡ gs
+    go : (more : List Cell) → AllByRecursion Short more → Alike rest (shown more) → gs ≡ done ++ more → done ≡ gs
     go [] s a e = sym (e ∙ append-nil done)
     go (h ∷ more) s a e = absurd (some_group h more s.0 (λ i. sym (ap (λ t. get_or t i 32) (nil_from_length rest none)) ∙ a i))
 
 -- cells, and then conditions
-module _ (ks : List Constraint) (letters : All LaidConstraint ks) where
+module _ (ks : List Constraint) (letters : AllByRecursion LaidConstraint ks) where
   start_none : (ls : List Constraint) → start (flat_map three ls) ≡ 0
   unfolding start
   start_none [] = refl
   start_none (k ∷ ls) = refl
 
-  start_cell : (c : Cell) (cs : List Cell) (ls : List Constraint) → All LaidCell cs → All LaidConstraint ls → start (c ∷ (cs ++ flat_map three ls)) ≡ 1 + start (cs ++ flat_map three ls)
+  start_cell : (c : Cell) (cs : List Cell) (ls : List Constraint) → AllByRecursion LaidCell cs → AllByRecursion LaidConstraint ls → start (c ∷ (cs ++ flat_map three ls)) ≡ 1 + start (cs ++ flat_map three ls)
   unfolding start
   start_cell c [] [] s t = refl
   start_cell c [] (k ∷ ls) s t = ap (λ b. cond b 0 (1 + start (flat_map three (k ∷ ls)))) (ne_eqb k.condition.form 32 t.0.0.0)
   start_cell c (d ∷ cs) ls s t = ap (λ b. cond b 0 (1 + start (d ∷ (cs ++ flat_map three ls)))) (ne_eqb d.letter 32 s.0.0.0)
 
-  start_cells : (cs : List Cell) → All LaidCell cs → start (cs ++ flat_map three ks) ≡ length cs
+  start_cells : (cs : List Cell) → AllByRecursion LaidCell cs → start (cs ++ flat_map three ks) ≡ length cs
   start_cells [] s = start_none ks
   start_cells (c ∷ cs) s = let e = start_cells cs s.1 in start_cell c cs ks s.1 letters ∙ omega arith
 
@@ -95,7 +95,7 @@ conditions_back (k ∷ ks) = ap (λ t. k ∷ t) (conditions_back ks)
 abbrev made : List Cell → List Constraint → Description
 made cs ks = record { cells = cs; constraints = ks }
 
-pub split_back : (d : Description) → All LaidCell d.cells → All LaidConstraint d.constraints → split (groups_of d) ≡ d
+pub split_back : (d : Description) → AllByRecursion LaidCell d.cells → AllByRecursion LaidConstraint d.constraints → split (groups_of d) ≡ d
 split_back d s t =
     let e = start_cells d.constraints t d.cells s in
     let l = sym e in
@@ -105,15 +105,15 @@ split_back d s t =
     ap (λ cs. made cs (conditions (drop (start (groups_of d)) (groups_of d)))) a ∙ ap (made d.cells) b
 
 -- groups that have room
-pub cells_room : (cs : List Cell) → All LaidCell cs → All Short cs
+pub cells_room : (cs : List Cell) → AllByRecursion LaidCell cs → AllByRecursion Short cs
 cells_room [] s = tt
 cells_room (c ∷ cs) s = (s.0.1, cells_room cs s.1)
 
-condition_room : (ks : List Constraint) → All LaidConstraint ks → All Short (flat_map three ks)
+condition_room : (ks : List Constraint) → AllByRecursion LaidConstraint ks → AllByRecursion Short (flat_map three ks)
 condition_room [] t = tt
 condition_room (k ∷ ks) t = (t.0.1, (t.0.2, (t.0.3, condition_room ks t.1)))
 
-pub groups_room : (d : Description) → All LaidCell d.cells → All LaidConstraint d.constraints → All Short (groups_of d)
+pub groups_room : (d : Description) → AllByRecursion LaidCell d.cells → AllByRecursion LaidConstraint d.constraints → AllByRecursion Short (groups_of d)
 groups_room d s t = All-append Short d.cells (flat_map three d.constraints) (cells_room d.cells s) (condition_room d.constraints t)
 
 -- the steps by which the conditions are found

@@ -1,6 +1,6 @@
 -- The text of what is laid out has no newline.
 use Rattle.std.proofs.Common.{◌≡◌, ℕ, zero, suc, ◌+◌, ◌-◌, ◌%◌, ◌^◌, ◌<◌, List, [], ◌∷◌, ◌++◌, length, Some, None, decimal, Option, arith}
-use Rattle.std.specs.List.{flat_map, AllByRecursion as All}
+use Rattle.std.specs.List.{flat_map, AllByRecursion}
 use Rattle.std.proofs.lemmas.Fmt.{decimal_by_steps}
 use Rattle.std.proofs.ByRecursion.{All-append, All-push}
 use Rattle.serial.specs.History.{Call.begin, Call.reserve, Call.look, Call.survey, Call.write, Call.strike, Call.commit, Call.abandon}
@@ -14,7 +14,7 @@ use Rattle.requests.specs.Layout.{Ask, Fields, fields, shown, text, three, word_
 use Rattle.requests.proofs.Decoded.{Room}
 
 abbrev Plain : List ℕ → Type 0
-Plain = All (λ b. b ≡ 10 → ⊥)
+Plain = AllByRecursion (λ b. b ≡ 10 → ⊥)
 
 joint : (x y : List ℕ) → Plain x → Plain y → Plain (x ++ y)
 joint x y p q = All-append (λ b. b ≡ 10 → ⊥) x y p q
@@ -54,7 +54,7 @@ plain_cell : (c : Cell) → (c.letter ≡ 10 → ⊥) → c.number < 10 ^ 9 → 
 unfolding cell_text
 plain_cell c l h = (l, plain_columns 9 c.number (omega arith))
 
-plain_cells : (cs : List Cell) → All LaidCell cs → Plain (flat_map cell_text cs)
+plain_cells : (cs : List Cell) → AllByRecursion LaidCell cs → Plain (flat_map cell_text cs)
 plain_cells [] s = tt
 plain_cells (c ∷ cs) s = joint (cell_text c) (flat_map cell_text cs) (plain_cell c s.0.0.1 s.0.1) (plain_cells cs s.1)
 
@@ -68,11 +68,11 @@ plain_constraint k s cs p =
     (joint (cell_text a) _ (plain_cell a blank_letter s.2)
     (joint (cell_text b) _ (plain_cell b blank_letter s.3) p))
 
-plain_constraints : (ks : List Constraint) → All LaidConstraint ks → Plain (flat_map cell_text (flat_map three ks))
+plain_constraints : (ks : List Constraint) → AllByRecursion LaidConstraint ks → Plain (flat_map cell_text (flat_map three ks))
 plain_constraints [] s = tt
 plain_constraints (k ∷ ks) s = plain_constraint k s.0 (flat_map three ks) (plain_constraints ks s.1)
 
-plain_groups : (cs : List Cell) (ks : List Constraint) → All LaidCell cs → All LaidConstraint ks → Plain (flat_map cell_text (cs ++ flat_map three ks))
+plain_groups : (cs : List Cell) (ks : List Constraint) → AllByRecursion LaidCell cs → AllByRecursion LaidConstraint ks → Plain (flat_map cell_text (cs ++ flat_map three ks))
 plain_groups [] ks s t = plain_constraints ks t
 plain_groups (c ∷ cs) ks s t =
     joint (cell_text c) (flat_map cell_text (cs ++ flat_map three ks)) (plain_cell c s.0.0.1 s.0.1) (plain_groups cs ks s.1 t)

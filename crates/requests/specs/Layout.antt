@@ -1,6 +1,6 @@
 -- What is asked, and the line of columns that shows it.
 use Rattle.std.specs.Prelude.{◌≡◌, ℕ, ◌^◌, ◌<◌, List, [], ◌∷◌, ◌++◌, Some, None, vec_items, codes, Option, ◌≢◌}
-use Rattle.std.specs.List.{flat_map, AllByRecursion as All}
+use Rattle.std.specs.List.{flat_map, AllByRecursion}
 use Rattle.terms.specs.Fitting.{Description}
 use Rattle.terms.specs.declared.cell.Cell.{Cell}
 use Rattle.terms.specs.declared.constraint.Constraint.{Constraint}
@@ -96,11 +96,11 @@ LaidConstraint k = Letter k.condition.form × (k.variable < 10 ^ 9) × (k.condit
 abbrev pub Laid : Ask → Type 0
 Laid None = Unit {0}
 Laid (Some (begin planner)) = planner < 10 ^ 7
-Laid (Some (reserve t right d)) = (t < 10 ^ 7) × (right ≢ 10) × All LaidCell d.cells × All LaidConstraint d.constraints
-Laid (Some (look t cells)) = (t < 10 ^ 7) × All LaidCell cells
+Laid (Some (reserve t right d)) = (t < 10 ^ 7) × (right ≢ 10) × AllByRecursion LaidCell d.cells × AllByRecursion LaidConstraint d.constraints
+Laid (Some (look t cells)) = (t < 10 ^ 7) × AllByRecursion LaidCell cells
 Laid (Some (survey t n)) = (t < 10 ^ 7) × (n < 10 ^ 7)
-Laid (Some (write t cells k)) = (t < 10 ^ 7) × All LaidCell cells × (k < 10 ^ 7)
-Laid (Some (strike t cells)) = (t < 10 ^ 7) × All LaidCell cells
+Laid (Some (write t cells k)) = (t < 10 ^ 7) × AllByRecursion LaidCell cells × (k < 10 ^ 7)
+Laid (Some (strike t cells)) = (t < 10 ^ 7) × AllByRecursion LaidCell cells
 Laid (Some (commit t)) = t < 10 ^ 7
 Laid (Some (abandon t)) = t < 10 ^ 7
 

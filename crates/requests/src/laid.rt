@@ -1,6 +1,6 @@
 // Whether there is room for a request in its columns.
 ghost use Rattle.std.specs.Prelude.{Decides};
-ghost use Rattle.std.specs.List.{AllByRecursion as All};
+ghost use Rattle.std.specs.List.{AllByRecursion};
 ghost use Rattle.requests.specs.Layout.{Laid, LaidCell, LaidConstraint, asked_of};
 
 use crate::request::Request;
@@ -19,7 +19,7 @@ fn is_laid_cell(cell: Cell) -> bool
 }
 
 fn are_laid_cells(cells: &[Cell]) -> bool
-    ensures { Decides result (All LaidCell cells.now) }
+    ensures { Decides result (AllByRecursion LaidCell cells.now) }
 {
     for cell in cells {
         if !is_laid_cell(*cell) {
@@ -41,7 +41,7 @@ fn is_laid_constraint(constraint: Constraint) -> bool
 }
 
 fn are_laid_constraints(constraints: &[Constraint]) -> bool
-    ensures { Decides result (All LaidConstraint constraints.now) }
+    ensures { Decides result (AllByRecursion LaidConstraint constraints.now) }
 {
     for constraint in constraints {
         if !is_laid_constraint(*constraint) {

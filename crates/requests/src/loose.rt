@@ -1,6 +1,6 @@
 // What a line asks, if it is laid out: nothing is checked here, since what is read is written again and compared.
 ghost use Rattle.std.specs.Prelude.{◌≡◌, ℕ, ◌^◌, ◌<◌, ◌≤◌, List, length, IfOk, Some};
-ghost use Rattle.std.specs.List.{flat_map, AllByRecursion as All};
+ghost use Rattle.std.specs.List.{flat_map, AllByRecursion};
 ghost use Rattle.columns.specs.Columns.{cell_text, columns, Short};
 ghost use Rattle.requests.specs.Layout.{Ask, Shows, asked_of};
 ghost use Rattle.requests.specs.Lines.{Alike, front};
@@ -43,7 +43,7 @@ fn group_in(line: &[u8]) -> Cell
 
 // The groups in a line.
 fn groups_in(heap: Global, line: &[u8]) -> Result<Vec<Cell>, AllocError>
-    ensures { IfOk result (λ v. (gs : List Cell) → All Short gs → Alike line.now (flat_map cell_text gs) → v.items ≡ gs) }
+    ensures { IfOk result (λ v. (gs : List Cell) → AllByRecursion Short gs → Alike line.now (flat_map cell_text gs) → v.items ≡ gs) }
 {
     let mut groups = Vec::new(heap);
     let mut rest = &line[..trimmed_len(line)];

@@ -1,6 +1,6 @@
 -- What the split of a sheet into its lines keeps from byte to byte.
 use Rattle.std.proofs.Common.{◌≡◌, ℕ, ◌+◌, ◌-◌, ◌<◌, ◌≤◌, List, [], ◌∷◌, ◌++◌, length, get_or, take, drop, sym, ap, ◌∙◌, subst, ap₂, append_assoc, arith, below_more}
-use Rattle.std.specs.List.{flat_map, AllByRecursion as All}
+use Rattle.std.specs.List.{flat_map, AllByRecursion}
 use Rattle.std.proofs.lemmas.List.{take_more, flat_map_more, take-append-drop, take_all, take-take, drop-take, length-take, length-drop, get_or-drop, get_or-take}
 use Rattle.std.proofs.ByRecursion.{All-push, All-from_get_or}
 use Rattle.sheets.specs.Lines.{Unbroken, LinesOf}
@@ -8,7 +8,7 @@ use Rattle.sheets.specs.Lines.{Unbroken, LinesOf}
 pub record Splitting (input : List ℕ) (ended : List (List ℕ)) (start i : ℕ) : Type 0 where
   pub within : start ≤ i
   pub joins : take start input ≡ flat_map (λ line. line ++ (10 ∷ [])) ended
-  pub lines : All Unbroken ended
+  pub lines : AllByRecursion Unbroken ended
   pub clean : (k : ℕ) → start ≤ k → k < i → get_or input k 0 ≡ 10 → ⊥
 
 module _ (input : List ℕ) (ended : List (List ℕ)) (start i : ℕ) (s : Splitting input ended start i) where

@@ -1,6 +1,6 @@
 -- Cells in the memory of a key.
 use Rattle.std.proofs.Common.{◌≡◌, ℕ, zero, suc, ◌+◌, ◌^◌, ◌<◌, ◌≤◌, true, ltb, List, [], ◌∷◌, ◌++◌, length, get_or, take, set, sym, refl, ap, ◌∙◌, arith}
-use Rattle.std.specs.List.{AllByRecursion as All}
+use Rattle.std.specs.List.{AllByRecursion}
 use Rattle.std.proofs.lemmas.List.{take_more, take_more_set, length-set, length-take-le, take_all}
 use Rattle.std.proofs.ByRecursion.{All-take, All-get_or}
 use Rattle.std.proofs.lemmas.Bool.{and_parts, and_from, lt-ltb, ltb-true}
@@ -9,11 +9,11 @@ use Rattle.stores.specs.Short.{all_short}
 use Rattle.stores.specs.declared.key.Key.{Key}
 use Rattle.stores.specs.Rows.{Storable, cells_of}
 
-pub short_all : (cs : List Cell) → all_short cs ≡ true → All (λ c. c.number < 10 ^ 9) cs
+pub short_all : (cs : List Cell) → all_short cs ≡ true → AllByRecursion (λ c. c.number < 10 ^ 9) cs
 short_all [] e = tt
 short_all (c ∷ cs) e = let p = and_parts (ltb c.number 1000000000) (all_short cs) e in (ltb-true c.number 1000000000 p.0, short_all cs p.1)
 
-pub short_from : (cs : List Cell) → All (λ c. c.number < 10 ^ 9) cs → all_short cs ≡ true
+pub short_from : (cs : List Cell) → AllByRecursion (λ c. c.number < 10 ^ 9) cs → all_short cs ≡ true
 short_from [] a = refl
 short_from (c ∷ cs) a = and_from _ _ (lt-ltb c.number 1000000000 a.0) (short_from cs a.1)
 

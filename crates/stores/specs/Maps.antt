@@ -1,7 +1,7 @@
 -- Places as a map from rows to counts, with its rows: what the ghost members of stores cite.
 use Rattle.std.specs.Prelude.{◌≡◌, ℕ, suc, ◌+◌, ◌≤◌, Bool, true, false, cond, not, List, [], ◌∷◌, length, is_some, Some, None, count_by, Option, refl}
 use Rattle.std.proofs.Common.{sym, ap, ◌∙◌, inl, inr, arith}
-use Rattle.std.specs.List.{AllByRecursion as All}
+use Rattle.std.specs.List.{AllByRecursion}
 use Rattle.std.proofs.lemmas.List.Sums.{sum_by-cons, count_by-le-length}
 use Rattle.std.proofs.lemmas.Bool.{cond-true, and_parts, not-true, both_ways}
 use Rattle.maps.specs.Maps.{In, Once, Listed}
@@ -59,7 +59,7 @@ pub held_room : (ps : List Place) → length (rows_in (held ps)) ≤ length ps
 held_room ps = omega (arith, rows_length (held ps), held_length ps, count_by-le-length taken ps)
 
 -- a count that is looked up stands at a place
-pub look_small : (top : ℕ) (ps : List Place) → All (λ p. count_at p ≤ top) ps → (q : List Cell) (n : ℕ) → look (held ps) q ≡ Some n → n ≤ top
+pub look_small : (top : ℕ) (ps : List Place) → AllByRecursion (λ p. count_at p ≤ top) ps → (q : List Cell) (n : ℕ) → look (held ps) q ≡ Some n → n ≤ top
 look_small top [] a q n e = absurd (none_some n e)
 look_small top (p ∷ ps) a q n e = go (taken p) e (look_small top ps a.1 q n)
   where

@@ -1,7 +1,7 @@
 -- Rows as stores keep them, and that two of them are equal or not.
 use Rattle.std.specs.Prelude.{◌≡◌, ℕ, ◌^◌, ◌<◌, ◌≤◌, Bool, true, false, ◌&&◌, List, [], ◌∷◌, length, take, ◌==◌, refl}
 use Rattle.std.proofs.Common.{sym, ap, ◌∙◌, arith}
-use Rattle.std.specs.List.{AllByRecursion as All}
+use Rattle.std.specs.List.{AllByRecursion}
 use Rattle.std.proofs.lemmas.Bool.{eq-eqb, eqb-true, and_parts, both_ways}
 use Rattle.terms.specs.declared.cell.Cell.{Cell}
 use Rattle.stores.specs.declared.key.Key.{Key}
@@ -14,7 +14,7 @@ cells_of k = take k.len k.cells
 pub record Storable (cs : List Cell) : Type 0 where
   pub some : 0 < length cs
   pub few : length cs ≤ 12
-  pub short : All (λ c. c.number < 10 ^ 9) cs
+  pub short : AllByRecursion (λ c. c.number < 10 ^ 9) cs
 
 -- whether two cells, and two rows, are the same
 abbrev pub same_cell : Cell → Cell → Bool

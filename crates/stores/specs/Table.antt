@@ -1,7 +1,7 @@
 -- What the records of a table hold.
 use Rattle.std.specs.Prelude.{◌≡◌, ◌≤◌, List, [], ◌∷◌, map, length, Some, None, Ok, Err, Result}
 use Rattle.std.proofs.Common.{arith}
-use Rattle.std.specs.List.{AllByRecursion as All}
+use Rattle.std.specs.List.{AllByRecursion}
 use Rattle.std.proofs.lemmas.List.{length-map}
 use Rattle.stores.specs.declared.entry.Entry.{Entry}
 use Rattle.stores.specs.declared.entry.Record.{Record}
@@ -23,7 +23,7 @@ abbrev pub contents : List Record → List Place
 contents rs = map place_of rs
 
 -- every count is at most 999,999
-pub contents_small : (rs : List Record) → All (λ p. count_at p ≤ 999999) (contents rs)
+pub contents_small : (rs : List Record) → AllByRecursion (λ p. count_at p ≤ 999999) (contents rs)
 contents_small [] = tt
 contents_small (Free ∷ rs) = (omega arith, contents_small rs)
 contents_small (Used e ∷ rs) = (e.count.few, contents_small rs)

@@ -1,7 +1,7 @@
 -- The scan of cells: what the cells before a place, and the cell at it, say of all proper cells.
 use Rattle.std.proofs.Common.{◌≡◌, ℕ, zero, suc, ◌+◌, ◌-◌, ◌<◌, ◌≤◌, ◌⊎◌, List, [], ◌∷◌, ◌++◌, length, get_or, take, drop, replicate, sym, refl, ap, ◌∙◌, subst, inr, arith}
 use mathlib.Core.Logic.{⊎_map}
-use Rattle.std.specs.List.{AllByRecursion as All}
+use Rattle.std.specs.List.{AllByRecursion}
 use Rattle.std.proofs.lemmas.List.{take_more, take-append-drop, take_at, take_all, length-take, length-take-le, length-drop, length-append, length-replicate, get_or_default, get_or_past}
 use Rattle.std.proofs.ByRecursion.{All-append, All-get_or, All-more}
 use Rattle.refusals.specs.Places.{FirstFault}
@@ -41,7 +41,7 @@ module _ (sig : List ℕ) (zero_arity : get_or sig 0 0 ≡ 0) (M : Meaning) (v l
   ended zero = refl
   ended (suc n) = subst (λ (a : ℕ). Leaves sig (a + n) (replicate n nought) 0) (sym zero_arity) (let e : 0 + n ≡ n = omega arith in subst (λ (k : ℕ). Leaves sig k (replicate n nought) 0) (sym e) (ended n))
 
-  fine_nought : (n : ℕ) → All (Fine M v) (replicate n nought)
+  fine_nought : (n : ℕ) → AllByRecursion (Fine M v) (replicate n nought)
   fine_nought zero = tt
   fine_nought (suc n) = (omega arith, fine_nought n)
 
@@ -53,7 +53,7 @@ module _ (sig : List ℕ) (zero_arity : get_or sig 0 0 ≡ 0) (M : Meaning) (v l
   pub record Before (cs : List Cell) (i to_come : ℕ) : Type 0 where
     pub reads : Leaves sig 1 (take i cs) to_come
     pub starts : Starts (take i cs)
-    pub fine : All (Fine M v) (take i cs)
+    pub fine : AllByRecursion (Fine M v) (take i cs)
     pub room : i + to_come ≤ limit
 
   pub before_start : (cs : List Cell) → 1 ≤ limit → Before cs 0 1
@@ -161,7 +161,7 @@ module _ (sig : List ℕ) (zero_arity : get_or sig 0 0 ≡ 0) (M : Meaning) (v l
         term = record {
           whole = subst (λ (k : ℕ). Leaves sig 1 cs k) z (subst (λ (xs : List Cell). Leaves sig 1 xs to_come) all before.reads);
           starts = subst Starts all before.starts;
-          fine = subst (All (Fine M v)) all before.fine;
+          fine = subst (AllByRecursion (Fine M v)) all before.fine;
         };
         few = let r = before.room in omega arith;
       }

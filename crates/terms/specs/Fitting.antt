@@ -1,6 +1,6 @@
 -- When a row fits a pattern.
 use Rattle.std.specs.Prelude.{◌≡◌, ℕ, List, [], ◌∷◌, take}
-use Rattle.std.specs.List.{AllByRecursion as All}
+use Rattle.std.specs.List.{AllByRecursion}
 use Rattle.kinds.specs.Meaning.{Meaning}
 use Rattle.kinds.specs.Common.{Met}
 use Rattle.kinds.specs.declared.condition.Condition.{Condition}
@@ -24,7 +24,7 @@ cells_of r = take r.len r.cells
 
 -- one variable-free term of symbols and known values
 abbrev pub Ground : List ℕ → Meaning → List Cell → Type 0
-Ground sig M cs = Are sig 1 cs × All (Fine M 0) cs
+Ground sig M cs = Are sig 1 cs × AllByRecursion (Fine M 0) cs
 
 -- the term is one value, of the condition's letter and in its set
 abbrev pub Satisfies : Meaning → Condition → List Cell → Type 0
@@ -36,4 +36,4 @@ pub record Fits (sig : List ℕ) (M : Meaning) (row : List Cell) (p : Descriptio
   pub choice : Subst
   pub ground : (x : ℕ) → Ground sig M (choice x)
   pub makes : apply choice p.cells ≡ row
-  pub meets : All (λ k. Satisfies M k.condition (choice k.variable)) p.constraints
+  pub meets : AllByRecursion (λ k. Satisfies M k.condition (choice k.variable)) p.constraints

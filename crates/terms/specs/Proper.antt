@@ -1,6 +1,6 @@
 -- What is accepted: signatures, the cells of rows and patterns, and constraints.
 use Rattle.std.specs.Prelude.{◌≡◌, ℕ, ◌<◌, ◌≤◌, List, length, slice_index_or}
-use Rattle.std.specs.List.{AllByRecursion as All}
+use Rattle.std.specs.List.{AllByRecursion}
 use Rattle.kinds.specs.Meaning.{Meaning, Known}
 use Rattle.terms.specs.declared.cell.Cell.{Cell}
 use Rattle.terms.specs.declared.constraint.Constraint.{Constraint}
@@ -11,7 +11,7 @@ use Rattle.terms.specs.Fitting.{Description}
 pub record Arities (ns : List ℕ) : Type 0 where
   pub few : length ns ≤ 32
   pub nought : slice_index_or ns 0 0 ≡ 0
-  pub small : All (λ n. n ≤ 7) ns
+  pub small : AllByRecursion (λ n. n ≤ 7) ns
 
 -- a term of at most `limit` cells with v variables
 pub record SmallTerm (sig : List ℕ) (M : Meaning) (v limit : ℕ) (cs : List Cell) : Type 0 where
@@ -33,7 +33,7 @@ Constrains M k = (k.variable < 8) × Known M k.condition
 -- at most eight constraints
 pub record Constraints (M : Meaning) (ks : List Constraint) : Type 0 where
   pub few : length ks ≤ 8
-  pub each : All (Constrains M) ks
+  pub each : AllByRecursion (Constrains M) ks
 
 pub record ProperPattern (sig : List ℕ) (M : Meaning) (p : Description) : Type 0 where
   pub cells : PatternCells sig M p.cells

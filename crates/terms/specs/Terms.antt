@@ -1,6 +1,6 @@
 -- Terms as their cells in order, a symbol before its arguments; and substitution.
 use Rattle.std.specs.Prelude.{◌≡◌, ℕ, zero, suc, ◌+◌, ◌<◌, cond, List, [], ◌∷◌, ◌++◌, MatchBool, ◌==◌, slice_index}
-use Rattle.std.specs.List.{AllByRecursion as All}
+use Rattle.std.specs.List.{AllByRecursion}
 use Rattle.kinds.specs.Meaning.{Meaning, Value}
 use Rattle.terms.specs.declared.cell.Cell.{Cell}
 
@@ -31,7 +31,7 @@ Starts (c ∷ cs) = c.letter ≡ 83
 pub record Term (sig : List ℕ) (M : Meaning) (v : ℕ) (cs : List Cell) : Type 0 where
   pub whole : Are sig 1 cs
   pub starts : Starts cs
-  pub fine : All (Fine M v) cs
+  pub fine : AllByRecursion (Fine M v) cs
 
 -- a row, of any size: a term of symbols and known values that begins with a symbol
 abbrev pub Row : List ℕ → Meaning → List Cell → Type 0

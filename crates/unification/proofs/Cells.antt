@@ -1,6 +1,6 @@
 -- What is known of each cell, and what substitution keeps of it.
 use Rattle.std.proofs.Common.{◌≡◌, ℕ, zero, suc, ◌+◌, ◌<◌, Bool, true, false, cond, eqb, List, [], ◌∷◌, ◌++◌, get_or, drop, MatchBool, sym, refl, ap, ◌∙◌, subst, inl, inr, arith}
-use Rattle.std.specs.List.{AllByRecursion as All}
+use Rattle.std.specs.List.{AllByRecursion}
 use Rattle.std.proofs.ByRecursion.{All-append, All-get_or, All-drop, All-weaker}
 use Rattle.std.proofs.lemmas.Bool.{eq-eqb, ne_eqb}
 use Rattle.std.proofs.lemmas.Bool.Decides.{eqb_tells}
@@ -34,49 +34,49 @@ fine_as_var M w c e l =
     subst (λ (t : Bool). MatchBool t (c.number < 32) (MatchBool (eqb c.letter 86) (c.number < w) (Value M c.letter c.number))) (sym a)
     (subst (λ (t : Bool). MatchBool t (c.number < w) (Value M c.letter c.number)) (sym b) l)
 
-pub fine_below : (M : Meaning) (n : ℕ) (cs : List Cell) → All (Fine M n) cs → Below n cs
+pub fine_below : (M : Meaning) (n : ℕ) (cs : List Cell) → AllByRecursion (Fine M n) cs → Below n cs
 fine_below M n cs h k l v = fine_var M n (at cs k) (All-get_or (Fine M n) cs k (record { letter = 0; number = 0 }) l h) v
 
 -- all but the variables are symbols and known values
 abbrev pub Steady : Meaning → Cell → Type 0
 Steady M c = (c.letter ≡ 86 → ⊥) → Fine M 0 c
 
-pub steady : (M : Meaning) (v : ℕ) (cs : List Cell) → All (Fine M v) cs → All (Steady M) cs
+pub steady : (M : Meaning) (v : ℕ) (cs : List Cell) → AllByRecursion (Fine M v) cs → AllByRecursion (Steady M) cs
 steady M v cs h = All-weaker (Fine M v) (Steady M) (λ c f n. fine_other M v 0 c f n) cs h
 
-pub all_apply : (P : Cell → Type 0) (σ : Subst) → ((x : ℕ) → All P (σ x)) → (cs : List Cell) → All (λ c. (c.letter ≡ 86 → ⊥) → P c) cs → All P (apply σ cs)
+pub all_apply : (P : Cell → Type 0) (σ : Subst) → ((x : ℕ) → AllByRecursion P (σ x)) → (cs : List Cell) → AllByRecursion (λ c. (c.letter ≡ 86 → ⊥) → P c) cs → AllByRecursion P (apply σ cs)
 all_apply P σ h [] k = tt
 all_apply P σ h (c ∷ cs) k = All-append P (image σ c) (apply σ cs)
     (elim (var_or c) [
-      | inl v ↦ subst (All P) (sym (image_var σ c v)) (h c.number)
-      | inr v ↦ subst (All P) (sym (image_fix σ c v)) (k.0 v, tt)
+      | inl v ↦ subst (AllByRecursion P) (sym (image_var σ c v)) (h c.number)
+      | inr v ↦ subst (AllByRecursion P) (sym (image_fix σ c v)) (k.0 v, tt)
     ])
     (all_apply P σ h cs k.1)
 
-pub all_terms : (P : Cell → Type 0) (sig : List ℕ) (n : ℕ) (cs : List Cell) → All P cs → All P (terms sig n cs)
+pub all_terms : (P : Cell → Type 0) (sig : List ℕ) (n : ℕ) (cs : List Cell) → AllByRecursion P cs → AllByRecursion P (terms sig n cs)
 all_terms P sig n [] h = tt
 all_terms P sig zero (c ∷ cs) h = tt
 all_terms P sig (suc n) (c ∷ cs) h = (h.0, all_terms P sig (arity sig c + n) cs h.1)
 
 -- a sequence whose terms stand among steady cells keeps them steady
-pub sequence_steady : (M : Meaning) (sig : List ℕ) (cells : List Cell) → All (Steady M) cells → (bs : List Replacement)
-    → All (λ b. (p : ℕ) × (b.term ≡ part sig cells p 1)) bs → (y : ℕ) → All (Steady M) (sequence bs y)
+pub sequence_steady : (M : Meaning) (sig : List ℕ) (cells : List Cell) → AllByRecursion (Steady M) cells → (bs : List Replacement)
+    → AllByRecursion (λ b. (p : ℕ) × (b.term ≡ part sig cells p 1)) bs → (y : ℕ) → AllByRecursion (Steady M) (sequence bs y)
 sequence_steady M sig cells s [] h y = ((λ n. absurd (n refl)), tt)
 sequence_steady M sig cells s (b ∷ bs) h y =
-    let one : All (Steady M) (single b.name b.term y) = elim (eqb_tells y b.name) [
-      | inl p ↦ subst (All (Steady M)) (sym (ap (λ (t : Bool). cond t b.term (var y ∷ [])) p.0))
-          (subst (All (Steady M)) (sym h.0.1) (all_terms (Steady M) sig 1 (drop h.0.0 cells) (All-drop (Steady M) h.0.0 cells s)))
-      | inr p ↦ subst (All (Steady M)) (sym (ap (λ (t : Bool). cond t b.term (var y ∷ [])) p.0)) ((λ n. absurd (n refl)), tt)
+    let one : AllByRecursion (Steady M) (single b.name b.term y) = elim (eqb_tells y b.name) [
+      | inl p ↦ subst (AllByRecursion (Steady M)) (sym (ap (λ (t : Bool). cond t b.term (var y ∷ [])) p.0))
+          (subst (AllByRecursion (Steady M)) (sym h.0.1) (all_terms (Steady M) sig 1 (drop h.0.0 cells) (All-drop (Steady M) h.0.0 cells s)))
+      | inr p ↦ subst (AllByRecursion (Steady M)) (sym (ap (λ (t : Bool). cond t b.term (var y ∷ [])) p.0)) ((λ n. absurd (n refl)), tt)
     ] in
     all_apply (Steady M) (sequence bs) (sequence_steady M sig cells s bs h.1) (single b.name b.term y)
     (All-weaker (Steady M) (λ c. (c.letter ≡ 86 → ⊥) → Steady M c) (λ c k n. k) (single b.name b.term y) one)
 
 -- variable-free terms for what is left free make every term variable-free
-pub grounded : (sig : List ℕ) (M : Meaning) (γ : Subst) → ((x : ℕ) → Ground sig M (γ x)) → (cs : List Cell) → Are sig 1 cs → All (Steady M) cs → Ground sig M (apply γ cs)
+pub grounded : (sig : List ℕ) (M : Meaning) (γ : Subst) → ((x : ℕ) → Ground sig M (γ x)) → (cs : List Cell) → Are sig 1 cs → AllByRecursion (Steady M) cs → Ground sig M (apply γ cs)
 grounded sig M γ g cs a s = (are_apply sig γ (λ x. (g x).0) 1 cs a, all_apply (Fine M 0) γ (λ x. (g x).1) cs s)
 
 -- cells without variables stay
-pub apply_ground : (M : Meaning) (σ : Subst) (cs : List Cell) → All (Fine M 0) cs → apply σ cs ≡ cs
+pub apply_ground : (M : Meaning) (σ : Subst) (cs : List Cell) → AllByRecursion (Fine M 0) cs → apply σ cs ≡ cs
 apply_ground M σ [] h = refl
 apply_ground M σ (c ∷ cs) h =
     ap (λ xs. image σ c ++ xs) (apply_ground M σ cs h.1)

@@ -1,6 +1,6 @@
 -- Rows that fit two patterns, and choices for the variables of both.
 use Rattle.std.proofs.Common.{◌≡◌, ℕ, suc, ◌+◌, ◌-◌, ◌<◌, Bool, cond, ltb, List, [], ◌∷◌, ◌++◌, map, get_or, sym, refl, ap, ◌∙◌, subst, inl, inr, append-nil, arith}
-use Rattle.std.specs.List.{AllByRecursion as All}
+use Rattle.std.specs.List.{AllByRecursion}
 use Rattle.std.proofs.ByRecursion.{All-append}
 use Rattle.std.proofs.lemmas.Bool.{lt-ltb, le-ltb, cases_lt}
 use Rattle.kinds.specs.Meaning.{Meaning}
@@ -57,7 +57,7 @@ both_all P ρ τ a b x = elim (cases_lt x 8) [
 ]
 
 -- constraints
-all_split : (P : Constraint → Type 0) (xs ys : List Constraint) → All P (xs ++ ys) → All P xs × All P ys
+all_split : (P : Constraint → Type 0) (xs ys : List Constraint) → AllByRecursion P (xs ++ ys) → AllByRecursion P xs × AllByRecursion P ys
 all_split P [] ys h = (tt, h)
 all_split P (x ∷ xs) ys h = let k = all_split P xs ys h.1 in ((h.0, k.0), k.1)
 
@@ -65,23 +65,23 @@ module _ (M : Meaning) where
   abbrev MetBy : Subst → Constraint → Type 0
   MetBy σ k = Satisfies M k.condition (σ k.variable)
 
-  meets_left : (ρ τ : Subst) (ks : List Constraint) → All (Constrains M) ks → All (MetBy ρ) ks → All (MetBy (both ρ τ)) ks
+  meets_left : (ρ τ : Subst) (ks : List Constraint) → AllByRecursion (Constrains M) ks → AllByRecursion (MetBy ρ) ks → AllByRecursion (MetBy (both ρ τ)) ks
   meets_left ρ τ [] c h = tt
   meets_left ρ τ (k ∷ ks) c h =
       (subst (λ (t : List Cell). Satisfies M k.condition t) (sym (both_left ρ τ k.variable c.0.0)) h.0, meets_left ρ τ ks c.1 h.1)
 
-  meets_right : (ρ τ : Subst) (ks : List Constraint) → All (MetBy τ) ks → All (MetBy (both ρ τ)) (map shifted_constraint ks)
+  meets_right : (ρ τ : Subst) (ks : List Constraint) → AllByRecursion (MetBy τ) ks → AllByRecursion (MetBy (both ρ τ)) (map shifted_constraint ks)
   meets_right ρ τ [] h = tt
   meets_right ρ τ (k ∷ ks) h =
       (subst (λ (t : List Cell). Satisfies M k.condition t) (sym (both_right ρ τ k.variable)) h.0, meets_right ρ τ ks h.1)
 
-  unshifted : (σ : Subst) (ks : List Constraint) → All (MetBy σ) (map shifted_constraint ks) → All (MetBy (λ x. σ (x + 8))) ks
+  unshifted : (σ : Subst) (ks : List Constraint) → AllByRecursion (MetBy σ) (map shifted_constraint ks) → AllByRecursion (MetBy (λ x. σ (x + 8))) ks
   unshifted σ [] h = tt
   unshifted σ (k ∷ ks) h = (h.0, unshifted σ ks h.1)
 
 module _ (sig : List ℕ) (M : Meaning) (left right : Description) where
   -- a row that fits both is made by one choice for both
-  pub shared : Below 8 left.cells → All (Constrains M) left.constraints → (row : List Cell) → Fits sig M row left → Fits sig M row right
+  pub shared : Below 8 left.cells → AllByRecursion (Constrains M) left.constraints → (row : List Cell) → Fits sig M row left → Fits sig M row right
       → (σ : Subst) × Shared sig M left right σ × (apply σ left.cells ≡ row)
   shared b c row f g =
       let ρ : Subst = f.choice in
@@ -115,7 +115,7 @@ module _ (sig : List ℕ) (M : Meaning) (left right : Description) where
   }
 
 -- a row as a pattern: only the row itself fits
-pub row_fits : (sig : List ℕ) (M : Meaning) (row : List Cell) → get_or sig 0 0 ≡ 0 → All (Fine M 0) row → Fits sig M row (record { cells = row; constraints = [] })
+pub row_fits : (sig : List ℕ) (M : Meaning) (row : List Cell) → get_or sig 0 0 ≡ 0 → AllByRecursion (Fine M 0) row → Fits sig M row (record { cells = row; constraints = [] })
 row_fits sig M row z f = record {
   choice = λ _. record { letter = 83; number = 0 } ∷ [];
   ground = λ _. nought_ground sig M z;
@@ -123,7 +123,7 @@ row_fits sig M row z f = record {
   meets = tt;
 }
 
-pub only_row : (sig : List ℕ) (M : Meaning) (row other : List Cell) → All (Fine M 0) row → Fits sig M other (record { cells = row; constraints = [] }) → other ≡ row
+pub only_row : (sig : List ℕ) (M : Meaning) (row other : List Cell) → AllByRecursion (Fine M 0) row → Fits sig M other (record { cells = row; constraints = [] }) → other ≡ row
 only_row sig M row other f h = sym h.makes ∙ apply_ground M h.choice row f
 
 -- terms for what is left free give a solution, which has those terms there

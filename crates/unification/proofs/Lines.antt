@@ -1,7 +1,7 @@
 -- A sheet's bindings in line, and circles.
 use Rattle.std.proofs.Common.{◌≡◌, ℕ, zero, suc, ◌+◌, ◌-◌, ◌*◌, ◌<◌, ◌≤◌, Bool, true, false, cond, ltb, List, [], ◌∷◌, ◌++◌, length, get_or, drop, set, sym, refl, ap, ◌∙◌, subst, inl, inr, arith, length-append}
 use Rattle.std.proofs.lemmas.List.{drop_more, get_or-set_same, get_or-set_other}
-use Rattle.std.specs.List.{AllByRecursion as All}
+use Rattle.std.specs.List.{AllByRecursion}
 use Rattle.std.proofs.lemmas.Bool.Decides.{eqb_tells}
 use Rattle.std.proofs.lemmas.Bool.{true≢false, false≢true, ltb-true, lt-ltb}
 use Rattle.terms.specs.declared.cell.Cell.{Cell}
@@ -113,7 +113,7 @@ pub record Placed (sig : List ℕ) (cells sheet : List Cell) (wait : List Bool) 
   pub solves : (σ : Subst) → Sol sig cells sheet σ → Solves σ bs
   pub solved : (σ : Subst) → Solves σ bs → (x : ℕ) → x < 16 → entry sheet x < length cells → get_or wait x false ≡ false → σ x ≡ apply σ (part sig cells (entry sheet x) 1)
   pub free : (y : ℕ) → length cells ≤ entry sheet y → Unnamed y bs
-  pub drawn : All (λ b. (p : ℕ) × (b.term ≡ part sig cells p 1)) bs
+  pub drawn : AllByRecursion (λ b. (p : ℕ) × (b.term ≡ part sig cells p 1)) bs
 
 pub placed_none : (sig : List ℕ) (cells sheet : List Cell) (wait : List Bool) → length wait ≡ 16
     → ((x : ℕ) → x < 16 → get_or wait x false ≡ ltb (entry sheet x) (length cells)) → Placed sig cells sheet wait []

@@ -1,6 +1,6 @@
 -- Two patterns one behind the other.
 use Rattle.std.proofs.Common.{◌≡◌, ℕ, zero, suc, ◌+◌, ◌-◌, ◌<◌, ◌≤◌, Bool, false, cond, ◌⊎◌, List, [], ◌∷◌, map, length, get_or, replicate, sym, refl, ap, ◌∙◌, subst, inl, inr, append-nil, arith, length-append}
-use Rattle.std.specs.List.{AllByRecursion as All}
+use Rattle.std.specs.List.{AllByRecursion}
 use Rattle.std.proofs.ByRecursion.{All-append, All-weaker, All-map}
 use Rattle.std.proofs.lemmas.List.{get_or-replicate, get_or_append_left, get_or-append_right, get_or-map, length-map, drop_at}
 use Rattle.std.proofs.lemmas.Bool.{false≢true, cases_lt, eq-eqb, ne_eqb}
@@ -83,7 +83,7 @@ pair_good sig left right a b = record {
 }
 
 -- the cells of the pair are those of a term with sixteen variables
-pub pair_fine : (M : Meaning) (left right : List Cell) → All (Fine M 8) left → All (Fine M 8) right → All (Fine M 16) (pair left right)
+pub pair_fine : (M : Meaning) (left right : List Cell) → AllByRecursion (Fine M 8) left → AllByRecursion (Fine M 8) right → AllByRecursion (Fine M 16) (pair left right)
 pair_fine M left right a b =
     All-append (Fine M 16) left (map shifted right)
     (All-weaker (Fine M 8) (Fine M 16) (λ c f. elim (var_or c) [
@@ -96,7 +96,7 @@ pair_fine M left right a b =
     ]) right b))
 
 -- and the constraints are on sixteen variables
-pub pair_named : (M : Meaning) (left right : List Constraint) → All (Constrains M) left → All (Constrains M) right → All (λ k. k.variable < 16) (both_constraints left right)
+pub pair_named : (M : Meaning) (left right : List Constraint) → AllByRecursion (Constrains M) left → AllByRecursion (Constrains M) right → AllByRecursion (λ k. k.variable < 16) (both_constraints left right)
 pair_named M left right a b =
     All-append (λ k. k.variable < 16) left (map shifted_constraint right)
     (All-weaker (Constrains M) (λ k. k.variable < 16) (λ k h. (let l = h.0 in omega arith)) left a)

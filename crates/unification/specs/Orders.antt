@@ -1,6 +1,6 @@
 -- How the bindings of a sheet are put in order.
 use Rattle.std.specs.Prelude.{◌≡◌, ℕ, suc, ◌<◌, ◌≤◌, Bool, true, false, ◌⊎◌, List, [], ◌∷◌, length, MatchBool, slice_index_or}
-use Rattle.std.specs.List.{AllByRecursion as All}
+use Rattle.std.specs.List.{AllByRecursion}
 use Rattle.terms.specs.declared.cell.Cell.{Cell}
 use Rattle.terms.specs.Terms.{Subst}
 use Rattle.unification.specs.Fronts.{part}
@@ -52,4 +52,4 @@ pub record Ordered (sig : List ℕ) (cells sheet : List Cell) (bs : List Replace
   pub solves : (σ : Subst) → Sol sig cells sheet σ → Solves σ bs
   pub solved : (σ : Subst) → Solves σ bs → Sol sig cells sheet σ
   pub free : (y : ℕ) → length cells ≤ entry sheet y → Unnamed y bs
-  pub drawn : All (λ b. (p : ℕ) × (b.term ≡ part sig cells p 1)) bs
+  pub drawn : AllByRecursion (λ b. (p : ℕ) × (b.term ≡ part sig cells p 1)) bs

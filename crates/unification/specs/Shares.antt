@@ -1,6 +1,6 @@
 -- What the rows that fit two patterns have in common, and the smallest choice for a variable that is left free.
 use Rattle.std.specs.Prelude.{◌≡◌, ℕ, ◌≤◌, List, [], ◌∷◌, map, ◌≢◌}
-use Rattle.std.specs.List.{AllByRecursion as All}
+use Rattle.std.specs.List.{AllByRecursion}
 use Rattle.kinds.specs.Meaning.{Meaning}
 use Rattle.kinds.specs.Common.{Met}
 use Rattle.terms.specs.declared.cell.Cell.{Cell}
@@ -14,15 +14,15 @@ use Rattle.unification.specs.Pairs.{shifted, both_constraints}
 pub record Shared (sig : List ℕ) (M : Meaning) (left right : Description) (σ : Subst) : Type 0 where
   pub ground : (x : ℕ) → Ground sig M (σ x)
   pub unifies : Unifies σ left.cells (map shifted right.cells)
-  pub meets : All (λ k. Satisfies M k.condition (σ k.variable)) (both_constraints left.constraints right.constraints)
+  pub meets : AllByRecursion (λ k. Satisfies M k.condition (σ k.variable)) (both_constraints left.constraints right.constraints)
 
 -- the value of letter l and code c meets the constraints on x and on each variable that μ makes equal to x
 abbrev pub ClassMeets : Meaning → Subst → List Constraint → ℕ → ℕ → ℕ → Type 0
-ClassMeets M μ ks x l c = All (λ k. μ k.variable ≡ μ x → Met M k.condition l c) ks
+ClassMeets M μ ks x l c = AllByRecursion (λ k. μ k.variable ≡ μ x → Met M k.condition l c) ks
 
 -- there are no such constraints
 abbrev pub Unconstrained : Subst → List Constraint → ℕ → Type 0
-Unconstrained μ ks x = All (λ k. μ k.variable ≢ μ x) ks
+Unconstrained μ ks x = AllByRecursion (λ k. μ k.variable ≢ μ x) ks
 
 -- t is the value of smallest code that meets them, and every value that does has its letter
 pub record LeastValue (M : Meaning) (μ : Subst) (ks : List Constraint) (x : ℕ) (t : List Cell) : Type 0 where

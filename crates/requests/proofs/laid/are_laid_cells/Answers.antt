@@ -1,5 +1,5 @@
 use Rattle.std.proofs.Common.{get_or, take, sym, refl, ◌∙◌, subst}
-use Rattle.std.specs.List.{AllByRecursion as All}
+use Rattle.std.specs.List.{AllByRecursion}
 use Rattle.std.proofs.ByRecursion.{All-more, All-get_or}
 use Rattle.std.proofs.lemmas.List.{take_all}
 use Rattle.std.proofs.lemmas.Bool.{false≢true}
@@ -21,4 +21,4 @@ loop-cell-preserved c =
 pub returns : goal.returns
 returns c =
     let xs = c.args.cells.now in
-    (λ _. subst (All LaidCell) (take_all c.loop-cell.cell-index xs c.loop-cell-test.false) c.loop-cell.invariant, λ _. refl)
+    (λ _. subst (AllByRecursion LaidCell) (take_all c.loop-cell.cell-index xs c.loop-cell-test.false) c.loop-cell.invariant, λ _. refl)

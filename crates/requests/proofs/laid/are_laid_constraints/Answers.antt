@@ -1,5 +1,5 @@
 use Rattle.std.proofs.Common.{get_or, take, sym, refl, ◌∙◌, subst}
-use Rattle.std.specs.List.{AllByRecursion as All}
+use Rattle.std.specs.List.{AllByRecursion}
 use Rattle.std.proofs.ByRecursion.{All-more, All-get_or}
 use Rattle.std.proofs.lemmas.List.{take_all}
 use Rattle.std.proofs.lemmas.Bool.{false≢true}
@@ -21,4 +21,4 @@ loop-constraint-preserved c =
 pub returns : goal.returns
 returns c =
     let xs = c.args.constraints.now in
-    (λ _. subst (All LaidConstraint) (take_all c.loop-constraint.constraint-index xs c.loop-constraint-test.false) c.loop-constraint.invariant, λ _. refl)
+    (λ _. subst (AllByRecursion LaidConstraint) (take_all c.loop-constraint.constraint-index xs c.loop-constraint-test.false) c.loop-constraint.invariant, λ _. refl)
