@@ -32,7 +32,7 @@ returns-in-Ok g c =
           read = subst (λ z. Asks z asks) (cut c.args.input.now 65536 c.min.result c.min.ensures) c.in_ok-lines.ensures;
           called = c.in_ok-calls.ensures ∙ ap (λ l. present (map (option_map asked_of) l)) c.as_slice.ensures.value;
           ran = subst (λ cs. RanAll c.args.arities M places cs (vec_items run.answers) (vec_items run.samples) first last) c.as_slice-2.ensures.value ran.1;
-          written = c.in_ok-out.ensures
+          written = c.in_ok-out-in-Ok.ensures
               ∙ ap (λ l. answer_lines (map (option_map asked_of) l) c.as_slice-in-Ok-2.result.now c.as_slice-in-Ok-3.result.now) c.as_slice-in-Ok.ensures.value
               ∙ ap₂ (answer_lines asks) c.as_slice-in-Ok-2.ensures.value c.as_slice-in-Ok-3.ensures.value;
         },

@@ -4,7 +4,7 @@ use Rattle.requests.specs.Layout.{asked_of}
 use Rattle.sheets.specs.Answers.{written, line_of}
 use Rattle.sheets.proofs.Writings.{Left, left_none, left_some, left_skip, left_end}
 use Rattle.sheets.proofs.writing.write_lines.Goals as goal
-use Rattle.sheets.proofs.writing.write_lines.Goals.{in-None+in_ok-write_answer, in-Some+then-k-answers+then-k-samples+in_ok-write_answer-2, in-Some+else-k-answers}
+use Rattle.sheets.proofs.writing.write_lines.Goals.{in-None+in_ok-write_answer-in-None, in-Some+then-k-answers+then-k-samples+in_ok-write_answer-in-Some, in-Some+else-k-answers}
 use Rattle.sheets.proofs.writing.write_lines.Goals.{else-k-answers-via-then-k-answers+else-k-samples, else-k-answers-via-else-k-answers}
 
 pub loop-line-preserved : goal.loop-line-preserved
@@ -17,16 +17,16 @@ loop-line-preserved c =
     let d = c.line-item.result in
     let out = vec_items c.loop-line.out in
     elim c.match-line.branch [
-      | in-None+in_ok-write_answer w ↦
+      | in-None+in_ok-write_answer-in-None w ↦
           subst (λ n. Left (option_map asked_of) xs rs ss (vec_items c.match-line.out) n (i + 1)) (sym w.k-is)
           (left_none (option_map asked_of) xs rs ss out k i d (omega arith) c.loop-line.invariant (vec_items c.match-line.out)
-          (ap (option_map asked_of) (sym c.line-item.is ∙ w.in-None.is)) (ap vec_items w.out-is ∙ w.in_ok-write_answer.ensures))
-      | in-Some+then-k-answers+then-k-samples+in_ok-write_answer-2 w ↦
+          (ap (option_map asked_of) (sym c.line-item.is ∙ w.in-None.is)) (ap vec_items w.out-is ∙ w.in_ok-write_answer-in-None.ensures))
+      | in-Some+then-k-answers+then-k-samples+in_ok-write_answer-in-Some w ↦
           subst (λ n. Left (option_map asked_of) xs rs ss (vec_items c.match-line.out) n (i + 1)) (sym w.k-is)
           (left_some (option_map asked_of) xs rs ss out k i d (omega arith) c.loop-line.invariant (vec_items c.match-line.out) (asked_of w.in-Some.request) w.index-answers-k.result (record { cells = []; more = false })
           (ap (option_map asked_of) (sym c.line-item.is ∙ w.in-Some.is)) w.if-k-answers.true w.if-k-samples.true
           (ap vec_items w.out-is
-          ∙ w.in_ok-write_answer-2.ensures
+          ∙ w.in_ok-write_answer-in-Some.ensures
           ∙ ap (λ l. out ++ written l) (w.answer_line-told.ensures ∙ ap₂ (λ y z. line_of y z (get_or ss k (record { cells = []; more = false }))) w.word.ensures w.index-answers-k.is)))
       | in-Some+else-k-answers w ↦
           subst (λ n. Left (option_map asked_of) xs rs ss (vec_items c.match-line.out) n (i + 1)) (sym w.k-is)
