@@ -15,7 +15,7 @@ loop-k-preserved c =
       below_more _ _
           (λ k h.
           let lt : k < vec_len c.loop-k.image = omega (arith, here, h)
-          in subst (BlankAt k) (sym (c.push.ensures.places.0 k 0 lt)) (c.loop-k.invariant.1 k h)
+          in subst (BlankAt k) (sym (c.push.ensures.by_index.0 k 0 lt)) (c.loop-k.invariant.1 k h)
           )
-          (subst at here (subst (BlankAt c.loop-k.k) (sym (c.push.ensures.places.1 0 pushed)) c.blank_byte.ensures)),
+          (subst at here (subst (BlankAt c.loop-k.k) (sym (c.push.ensures.by_index.1 0 pushed)) c.blank_byte.ensures)),
     )
