@@ -4,10 +4,10 @@ use std::io::{self, Read, Write};
 use std::path::{Path, PathBuf};
 use std::process::{Command, Stdio};
 
-/// Where a program lies: the word given, else the variable's value, else in target/bin of the repository.
+/// Where a program lies: the word given, else the variable's value, else where the repository's build leaves it.
 pub fn place(given: Option<String>, variable: &str, name: &str) -> PathBuf {
     let set = given.or_else(|| std::env::var(variable).ok());
-    set.map_or_else(|| Path::new(env!("CARGO_MANIFEST_DIR")).join("../target/bin").join(name), PathBuf::from)
+    set.map_or_else(|| Path::new(env!("CARGO_MANIFEST_DIR")).join("../crates").join(name).join("out").join(name), PathBuf::from)
 }
 
 /// What a program printed, and the status with which it ended; none if a signal ended it.

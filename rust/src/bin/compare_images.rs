@@ -1,5 +1,5 @@
 //! Compares the proved program `modelbase` with the rules on generated images: `compare_images [COUNT [SEED [PROGRAM]]]`.
-//! COUNT is the number of images; PROGRAM (or the variable MODELBASE) is where the program lies, by default in target/bin of the
+//! COUNT is the number of images; PROGRAM (or the variable MODELBASE) is where the program lies, by default crates/NAME/out/NAME of the
 //! repository. `PROGRAM run FILE` reads requests, prints answers and leaves the changed image in FILE. A refused image stays as it was,
 //! and what is printed says 'refused with' its number, 'at line' and 'field'. It ends with status 1 at the first difference, and keeps the
 //! input. The word `rules` for PROGRAM runs the rules alone.

@@ -1,5 +1,5 @@
 //! Compares the proved program `sheet` with the rules on generated sheets: `compare_sheets [COUNT [SEED [PROGRAM]]]`.
-//! COUNT is the number of request lines; PROGRAM (or the variable SHEET) is where the program lies, by default in target/bin of the
+//! COUNT is the number of request lines; PROGRAM (or the variable SHEET) is where the program lies, by default crates/NAME/out/NAME of the
 //! repository. Each sheet is also checked for a serial order. It ends with status 1 at the first difference, and keeps the sheet.
 //! The word `rules` for PROGRAM runs the rules alone, with the check for a serial order.
 
