@@ -1,5 +1,5 @@
 -- What is asked, and the line of columns that shows it.
-use Rattle.std.specs.Prelude.{◌≡◌, ℕ, ◌^◌, ◌<◌, List, [], ◌∷◌, ◌++◌, Some, None, vec_items, codes, Option, ◌≢◌}
+use Rattle.std.specs.Prelude.{ℕ, ◌^◌, ◌<◌, List, [], ◌∷◌, ◌++◌, Some, None, vec_items, codes, Option, ◌≢◌}
 use Rattle.std.specs.List.{flat_map, AllByRecursion}
 use Rattle.terms.specs.Fitting.{Description}
 use Rattle.terms.specs.declared.cell.Cell.{Cell}

@@ -1,5 +1,5 @@
 -- What each call's contract says is a step of the machine of the serial order.
-use Rattle.std.proofs.Common.{◌≡◌, ℕ, true, false, not, eqb, ◌⊎◌, List, [], ◌∷◌, ◌++◌, map, Option, sym, refl, ap, ◌∙◌, subst, inl, inr, ⊎_elim}
+use Rattle.std.proofs.Common.{◌≡◌, ℕ, true, false, not, eqb, ◌⊎◌, List, [], ◌∷◌, ◌++◌, map, Option, sym, refl, ap, ◌∙◌, subst, inl, inr}
 use Rattle.std.proofs.lemmas.List.{map-append}
 use Rattle.maps.specs.Maps.{Map, Same, In}
 use Rattle.maps.proofs.Lists.{in_map, map_in, map_kept}
@@ -12,11 +12,10 @@ use Rattle.serial.specs.History as words
 use Rattle.serial.specs.History.{Event, asked}
 use Rattle.serial.specs.History.{Event.refused, Event.began, Event.reserved, Event.did, Event.committed, Event.abandoned}
 use Rattle.serial.specs.History.{Deed, Deed.looked, Deed.surveyed, Deed.changed}
-use Rattle.serial.specs.Rights.{letter_of, Change, Change.written, Change.struck}
+use Rattle.serial.specs.Rights.{Change, Change.written, Change.struck}
 use Rattle.serial.specs.Machine.{Alike, Does, Moves, gone, seen}
 use Rattle.manager.specs.declared.fault.ManagerFault.{ManagerFault}
 use Rattle.manager.specs.Faults.{manager_refusal}
-use Rattle.ledger.specs.declared.entry.Reservation.{Reservation}
 use Rattle.manager.specs.declared.fault.ManagerFault.TheVariants.{Pattern, Store, Planner, TransactionsFull, NumbersSpent, NotOpen, Right, ReservationsFull, NoneFits, NotOwn, Count, NoneWrites, ChangesFull, Conflict}
 use Rattle.ledger.specs.Words.{language, grant_of, pending_of, right_of}
 use Rattle.manager.specs.Book.{Book, state_of}

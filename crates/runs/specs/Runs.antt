@@ -6,7 +6,6 @@ use Rattle.maps.specs.Maps.{Map}
 use Rattle.terms.specs.declared.cell.Cell.{Cell}
 use Rattle.terms.specs.Fitting.{Description}
 use Rattle.compare.specs.declared.sample.Sample.{Sample}
-use Rattle.stores.specs.declared.count.Count.{Count}
 use Rattle.stores.specs.Means.{count_of}
 use Rattle.serial.specs.Rights.{Change.written, Change.struck}
 use Rattle.serial.specs.History.{History, asked}

@@ -1,4 +1,4 @@
-use Rattle.std.proofs.Common.{length, get_or, take, drop, vec_items, sym, ap, ◌∙◌, subst, arith, true-eqb, false-eqb}
+use Rattle.std.proofs.Common.{length, get_or, take, vec_items, sym, ap, ◌∙◌, subst, arith, true-eqb, false-eqb}
 use Rattle.std.proofs.lemmas.List.{length-drop, length-take-le}
 use Rattle.requests.proofs.Alike.{Marked, trim_alike, trim_marked}
 use Rattle.requests.proofs.Groups.{Left, left_first, left_next, left_last}

@@ -1,16 +1,15 @@
-use Rattle.std.proofs.Common.{◌≡◌, [], sym, refl, ap, subst}
+use Rattle.std.proofs.Common.{◌≡◌, refl, ap}
 use Rattle.std.specs.Option.{option_map}
 use Rattle.terms.specs.Fitting.{Description}
 use Rattle.stores.specs.Means.{count_of}
 use Rattle.serial.specs.Rights.{Change.written, Change.struck}
-use Rattle.runs.specs.declared.call.Call.TheVariants.{Begin, Reserve, Look, Survey, Write, Strike, Commit, Abandon, Tally}
+use Rattle.runs.specs.declared.call.Call.TheVariants.{Begin, Reserve, Look, Survey, Write, Strike, Commit, Abandon}
 use Rattle.runs.specs.declared.call.Answer.TheVariants as answers
 use Rattle.manager.specs.Book.{book_of}
 use Rattle.manager.specs.Ending.{begin_rules, Begun, commit_rules, Committed, abandon_rules, Abandoned, own_map}
 use Rattle.manager.specs.Looking.{look_rules, write_rules, strike_rules, Changed}
 use Rattle.manager.specs.Reserving.{reserve_rules, Reserved, Conflicted}
 use Rattle.manager.specs.Surveying.{survey_rules, Surveyed}
-use Rattle.manager.specs.Checks.{Answers}
 use Rattle.runs.proofs.Replying.{booked, asked_only, stored, shown}
 use Rattle.runs.proofs.run.answer.Goals as goal
 
