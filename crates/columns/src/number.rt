@@ -1,6 +1,6 @@
 // Numbers in columns: decimal, right-justified, without leading zeros.
 ghost use Rattle.std.specs.Prelude.{◌≡◌, ◌+◌, ◌*◌, ◌/◌, ◌%◌, ◌^◌, ◌<◌, ◌≤◌, map, length, decimal, Decides, MatchOption};
-ghost use Rattle.std.specs.Int.Digits.{number_from_digits as number_of_lem};
+ghost use Rattle.std.specs.Int.Digits.{number_from_digits as number_of};
 ghost use Rattle.columns.specs.Columns.{columns, Reads, Writes};
 ghost use Rattle.columns.specs.Steps.{mark, worth};
 
@@ -88,7 +88,7 @@ fn worth_of(b: u8) -> u32
 
 // The number that the digits write, whatever else stands between them; absent where it is too large.
 fn loose(part: &[u8]) -> Option<u32>
-    ensures { MatchOption result (2 ^ 32 ≤ number_of_lem 10 (map worth part.now)) (λ n. n ≡ number_of_lem 10 (map worth part.now)) }
+    ensures { MatchOption result (2 ^ 32 ≤ number_of 10 (map worth part.now)) (λ n. n ≡ number_of 10 (map worth part.now)) }
 {
     let mut n: u64 = 0;
     for b in part {

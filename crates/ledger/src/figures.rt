@@ -1,5 +1,5 @@
 // What a survey counts.
-ghost use Rattle.std.specs.Prelude.{◌≡◌, ◌*◌, ◌≤◌, List, map, length, Decides};
+ghost use Rattle.std.specs.Prelude.{◌*◌, ◌≤◌, List, map, length, Decides};
 ghost use Rattle.maps.specs.Maps.{Figures, Map};
 ghost use Rattle.terms.specs.declared.cell.Cell.{Cell};
 ghost use Rattle.terms.specs.Fitting.{Fits, described};

@@ -1,5 +1,5 @@
 // Reserve.
-ghost use Rattle.std.specs.Prelude.{◌≡◌, suc, min, MatchOption};
+ghost use Rattle.std.specs.Prelude.{◌≡◌, min, MatchOption};
 ghost use Rattle.maps.specs.Maps.{In};
 ghost use Rattle.terms.specs.Fitting.{described};
 ghost use Rattle.terms.specs.Proper.{ProperPattern};
@@ -9,7 +9,7 @@ ghost use Rattle.ledger.specs.Words.{right_of};
 ghost use Rattle.manager.specs.Book.{Fixed, Sizes, Well, book_of};
 ghost use Rattle.manager.specs.Checks.{Answers};
 ghost use Rattle.ledger.specs.Clashes.{Clashing, FirstClash, request};
-ghost use Rattle.manager.specs.Reserving.{Conflicted, Reserved, RightRead, by_conflict, reserve_checks, tallied};
+ghost use Rattle.manager.specs.Reserving.{Conflicted, Reserved, RightRead, by_conflict, reserve_checks};
 
 use crate::check::check_sizes;
 use crate::fault::ManagerFault;

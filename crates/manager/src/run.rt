@@ -1,5 +1,4 @@
 // Calls as they come from outside, over a new manager.
-ghost use Rattle.std.specs.Prelude.{◌≡◌};
 ghost use Rattle.ledger.specs.Words.{language};
 ghost use Rattle.manager.specs.Book.{Fixed, Well, book_of};
 ghost use Rattle.manager.specs.Calls.{RunMade, Steps, asked_by, number, says};

@@ -1,5 +1,4 @@
 // Survey.
-ghost use Rattle.std.specs.Prelude.{◌≡◌};
 ghost use Rattle.maps.specs.Maps.{Figures};
 ghost use Rattle.terms.specs.Fitting.{Fits, described};
 ghost use Rattle.terms.specs.Proper.{ProperPattern};

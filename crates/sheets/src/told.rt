@@ -2,7 +2,7 @@
 ghost use Rattle.std.specs.Prelude.{◌≡◌};
 ghost use Rattle.std.specs.Option.{option_map};
 ghost use Rattle.stores.specs.Means.{count_of};
-ghost use Rattle.sheets.specs.Answers.{granted as granted_line, holder, line_of, not_laid, refused as refused_line};
+ghost use Rattle.sheets.specs.Answers.{granted as granted_line, holder, line_of, refused as refused_line};
 
 use compare::sample::Sample;
 use manager::fault::ManagerFault;

@@ -1,5 +1,5 @@
 // A mask's bits in runs, so that neighbours are told together.
-ghost use Rattle.std.specs.Prelude.{ℕ, ◌<◌, ◌≤◌, MatchOption};
+ghost use Rattle.std.specs.Prelude.{◌<◌, ◌≤◌, MatchOption};
 ghost use Rattle.kinds.specs.Sets.{Bit};
 ghost use Rattle.telling.specs.Runs.{Clear, Filled, NextRun};
 

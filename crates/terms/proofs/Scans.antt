@@ -10,7 +10,7 @@ use Rattle.kinds.specs.Meaning.{Meaning}
 use Rattle.terms.specs.declared.cell.Cell.{Cell}
 use Rattle.terms.specs.Terms.{arity, Leaves, Fine, Starts}
 use Rattle.terms.specs.Proper.{SmallTerm}
-use Rattle.terms.specs.Reading.{Goes_on, Stray, CellsRefused}
+use Rattle.terms.specs.Reading.{GoesOn, Stray, CellsRefused}
 use Rattle.terms.specs.declared.fault.PatternFault.{PatternFault}
 use Rattle.terms.specs.declared.fault.PatternFault.TheVariants.{Bank, Structure}
 use Rattle.kinds.specs.declared.fault.BankFault.TheVariants.{Value as BadValue}
@@ -80,7 +80,7 @@ module _ (sig : List ℕ) (zero_arity : get_or sig 0 0 ≡ 0) (M : Meaning) (v l
 
     module _ (d : Cell) (here : i < length cs) where
       -- the cell at i goes on
-      pub before_more : Goes_on sig M v limit (get_or cs i d) i to_come → Before cs (i + 1) (to_come - 1 + arity sig (get_or cs i d))
+      pub before_more : GoesOn sig M v limit (get_or cs i d) i to_come → Before cs (i + 1) (to_come - 1 + arity sig (get_or cs i d))
       before_more g = record {
         reads = leaves_more sig 1 to_come i cs d here g.wanted before.reads;
         starts = starts_more cs i d here before.starts g.starts;
@@ -89,7 +89,7 @@ module _ (sig : List ℕ) (zero_arity : get_or sig 0 0 ≡ 0) (M : Meaning) (v l
       }
 
       -- what proper cells that agree one further say of the cell at i
-      agrees : (ds : List Cell) → SmallTerm sig M v limit ds → take (i + 1) ds ≡ take (i + 1) cs → Goes_on sig M v limit (get_or cs i d) i to_come
+      agrees : (ds : List Cell) → SmallTerm sig M v limit ds → take (i + 1) ds ≡ take (i + 1) cs → GoesOn sig M v limit (get_or cs i d) i to_come
       agrees ds t e =
           let c = get_or cs i d in
           let at_i = agrees_at cs ds i here e in
@@ -111,7 +111,7 @@ module _ (sig : List ℕ) (zero_arity : get_or sig 0 0 ≡ 0) (M : Meaning) (v l
           }
 
       -- the cell at i does not go on: it is the first fault
-      pub fault_here : (Goes_on sig M v limit (get_or cs i d) i to_come → ⊥) → FirstFault (SmallTerm sig M v limit) cs i
+      pub fault_here : (GoesOn sig M v limit (get_or cs i d) i to_come → ⊥) → FirstFault (SmallTerm sig M v limit) cs i
       fault_here no_more = record {
         within = omega arith;
         before = completes (omega arith);
@@ -119,7 +119,7 @@ module _ (sig : List ℕ) (zero_arity : get_or sig 0 0 ≡ 0) (M : Meaning) (v l
       }
 
       -- so it is refused, with its own fault
-      pub refused_here : (f : PatternFault) → (Goes_on sig M v limit (get_or cs i d) i to_come → ⊥)
+      pub refused_here : (f : PatternFault) → (GoesOn sig M v limit (get_or cs i d) i to_come → ⊥)
           × (((f ≡ Bank (BadValue i)) × Stray M (get_or cs i d)) ⊎ ((f ≡ Structure i) × (Stray M (get_or cs i d) → ⊥)))
           → CellsRefused (SmallTerm sig M v limit) M cs f
       refused_here f r = record {

@@ -4,4 +4,4 @@ pub mod Proper
 pub mod Faults
 pub mod Shapes
 pub mod Reading
-pub mod Same
+pub mod Equality

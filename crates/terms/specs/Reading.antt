@@ -73,7 +73,7 @@ SignatureRead ns (Err f) = (i : ℕ) × FirstFault Arities ns i × (f ≡ Arity 
 
 -- What the scanner asks of one cell, where `place` cells are before it and `to_come` terms are still to come: that it is a
 -- cell of the shape, that a term is to come, that the first cell is a symbol, and that what is then to come has room.
-pub record Goes_on (sig : List ℕ) (M : Meaning) (v limit : ℕ) (c : Cell) (place to_come : ℕ) : Type 0 where
+pub record GoesOn (sig : List ℕ) (M : Meaning) (v limit : ℕ) (c : Cell) (place to_come : ℕ) : Type 0 where
   pub fine : Fine M v c
   pub wanted : 0 < to_come
   pub starts : place ≡ 0 → c.letter ≡ 83
@@ -81,7 +81,7 @@ pub record Goes_on (sig : List ℕ) (M : Meaning) (v limit : ℕ) (c : Cell) (pl
 
 -- how many terms are to come after the cell; or its fault
 abbrev pub Scanned : List ℕ → Meaning → Shape → Cell → ℕ → ℕ → Result ℕ PatternFault → Type 0
-Scanned sig M s c place to_come (Ok n) = Goes_on sig M (variables s) (limit s) c place to_come × (n ≡ to_come - 1 + arity sig c)
+Scanned sig M s c place to_come (Ok n) = GoesOn sig M (variables s) (limit s) c place to_come × (n ≡ to_come - 1 + arity sig c)
 Scanned sig M s c place to_come (Err f) =
-    (Goes_on sig M (variables s) (limit s) c place to_come → ⊥)
+    (GoesOn sig M (variables s) (limit s) c place to_come → ⊥)
     × (((f ≡ Bank (BadValue place)) × Stray M c) ⊎ ((f ≡ Structure place) × (Stray M c → ⊥)))

@@ -1,9 +1,9 @@
 // The cells that rows and patterns are made of.
-ghost use Rattle.std.specs.Prelude.{◌≡◌, Decides, nat_eq};
-ghost use Rattle.std.specs.Ordering.{on, eq_of_both};
+ghost use Rattle.std.specs.Prelude.{◌≡◌, Decides};
 ghost use Rattle.std.specs.Cmp.Rules.{comparing};
 ghost use Rattle.std.proofs.Common.{rules};
 ghost use Rattle.std.specs.Cmp as Keys;
+ghost use Rattle.terms.specs.Equality.{cell_eq};
 
 // A letter and a number: S names a symbol, V a variable, and any other letter a value, whose number is its code.
 #[derive(Clone, Copy, Debug)]
@@ -14,11 +14,14 @@ pub struct Cell {
 
 // Written out, so that a caller knows that it decides equality.
 impl PartialEq for Cell {
-    ghost eq = { eq_of_both (on (λ v. v.letter) nat_eq) (on (λ v. v.number) nat_eq) };
+    ghost eq = { cell_eq };
 
     ghost laws = { Keys.partial_equiv_from_equiv (Prim.search (comparing, rules)) };
 
-    fn eq(&self, other: &Cell) -> bool {
+    fn eq(&self, other: &Cell) -> bool
+        ensures value { result ≡ cell_eq self.now other.now }
+        ensures decides { Decides result (self.now ≡ other.now) }
+    {
         self.letter == other.letter && self.number == other.number
     }
 }

@@ -2,7 +2,7 @@
 ghost use Rattle.std.specs.Prelude.{◌≡◌, Decides};
 ghost use Rattle.terms.specs.Fitting.{cells_of};
 ghost use Rattle.terms.specs.Reading.{RowRead};
-ghost use Rattle.terms.specs.Same.{same_cells};
+ghost use Rattle.terms.specs.Equality.{cells_eq};
 ghost use Rattle.std.specs.Cmp.{on_per, partial_equiv_from_equiv};
 ghost use Rattle.std.specs.Cmp.Lexicographic.{lists_per};
 ghost use Rattle.std.specs.Cmp.Rules.{comparing};
@@ -42,12 +42,12 @@ impl Row {
 
 // Rows are equal where their cells are.
 impl PartialEq for Row {
-    ghost eq = { λ a b. same_cells (cells_of a) (cells_of b) };
+    ghost eq = { λ a b. cells_eq (cells_of a) (cells_of b) };
 
     ghost laws = { on_per cells_of (lists_per (partial_equiv_from_equiv (Prim.search (comparing, rules)))) };
 
     fn eq(&self, other: &Row) -> bool
-        ensures value { result ≡ same_cells (cells_of self.now) (cells_of other.now) }
+        ensures value { result ≡ cells_eq (cells_of self.now) (cells_of other.now) }
         ensures decides { Decides result (cells_of self.now ≡ cells_of other.now) }
     {
         self.cells() == other.cells()

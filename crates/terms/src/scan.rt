@@ -1,5 +1,5 @@
 // Cells from the left: whether they are one term, and else the first fault.
-ghost use Rattle.std.specs.Prelude.{◌≡◌, ◌-◌, ◌^◌, ◌<◌, ◌≤◌};
+ghost use Rattle.std.specs.Prelude.{◌-◌, ◌^◌, ◌<◌, ◌≤◌};
 ghost use Rattle.terms.specs.Proper.{SmallTerm};
 ghost use Rattle.terms.specs.Shapes.{limit, variables};
 ghost use Rattle.terms.specs.Reading.{CellsChecked, Scanned};
