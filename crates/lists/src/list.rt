@@ -17,6 +17,18 @@ impl<T: Copy, const N: usize> UpTo<T, N> {
         }
     }
 
+    // The items of a slice, which are not too many.
+    pub fn of(from: &[T], blank: T) -> UpTo<T, N>
+        requires { length from.now ≤ N }
+        ensures { items result ≡ from.now }
+    {
+        let mut list = UpTo::new(blank);
+        for item in from {
+            list.push(*item);
+        }
+        list
+    }
+
     // The items of a slice; absent exactly where they are too many.
     pub fn copied(from: &[T], blank: T) -> Option<UpTo<T, N>>
         ensures { MatchOption result (N < length from.now) (λ l. items l ≡ from.now) }
@@ -24,11 +36,7 @@ impl<T: Copy, const N: usize> UpTo<T, N> {
         if from.len() > N {
             return None;
         }
-        let mut list = UpTo::new(blank);
-        for item in from {
-            list.push(*item);
-        }
-        Some(list)
+        Some(UpTo::of(from, blank))
     }
 
     pub fn len(&self) -> usize

@@ -1,4 +1,4 @@
--- The first arity and the first constraint that are not allowed, and items with blanks after them.
+-- The first arity and the first constraint that are not allowed.
 use Rattle.std.proofs.Common.{◌≡◌, ℕ, zero, suc, ◌+◌, ◌-◌, ◌<◌, ◌≤◌, ◌⊎◌, List, [], ◌∷◌, ◌++◌, length, get_or, take, drop, set, replicate, sym, refl, ap, ◌∙◌, subst, inl, inr, arith}
 use Rattle.std.proofs.lemmas.List.{take_more, take_all, take_at, drop_more, drop-replicate, length-take-le, get_or_default, set_at, append_assoc, get_or-take}
 use Rattle.std.proofs.ByRecursion.{All-more}
@@ -65,21 +65,3 @@ module _ (M : Meaning) (ks : List Constraint) (i : ℕ) (d : Constraint) (here :
     first = constraints_fault (λ p _. h p.1);
     fault = inr (refl, l, λ e. subst (λ (k : Constraint). k.variable < 8) (get_or_default ks i d e here) v);
   }
-
--- items with blanks after them, one item more
-pub filled_more : {A : Type 0} (xs ys all : List A) (i : ℕ) (x : A) → i < length xs → length xs ≤ length ys → x ≡ get_or xs i x → all ≡ take i xs ++ drop i ys
-    → set all i x ≡ take (i + 1) xs ++ drop (i + 1) ys
-filled_more xs ys all i x l h r e =
-    ap (λ zs. set zs i x) (e ∙ ap (λ zs. take i xs ++ zs) (drop_more ys i x (omega arith)))
-    ∙ set_at (take i xs) (get_or ys i x) (drop (i + 1) ys) x i (length-take-le i xs (omega arith))
-    ∙ sym (append_assoc (take i xs) (x ∷ []) (drop (i + 1) ys))
-    ∙ ap (λ zs. zs ++ drop (i + 1) ys) (ap (λ y. take i xs ++ y ∷ []) r ∙ sym (take_more xs i x l))
-
-pub filled_all : {A : Type 0} (xs all : List A) (b : A) (i n : ℕ) → i ≡ length xs → all ≡ take i xs ++ drop i (replicate n b) → all ≡ xs ++ replicate (n - length xs) b
-filled_all xs all b i n k e =
-    e ∙ ap (λ zs. zs ++ drop i (replicate n b)) (take_all i xs (omega arith))
-    ∙ ap (λ zs. xs ++ zs) (drop-replicate i n b ∙ ap (λ m. replicate (n - m) b) k)
-
--- what lies before the blanks
-pub filled_front : {A : Type 0} (xs all : List A) (b : A) (n : ℕ) → all ≡ xs ++ replicate n b → take (length xs) all ≡ xs
-filled_front xs all b n e = ap (take (length xs)) e ∙ take_at xs (replicate n b) (length xs) refl

@@ -1,4 +1,4 @@
 pub mod Leaving
 mod Scans
 mod Firsts
-pub mod Equality
+pub mod Storing

@@ -1,6 +1,7 @@
 -- When a row fits a pattern.
-use Rattle.std.specs.Prelude.{◌≡◌, ℕ, List, [], ◌∷◌, take}
+use Rattle.std.specs.Prelude.{◌≡◌, ℕ, List, [], ◌∷◌}
 use Rattle.std.specs.List.{AllByRecursion}
+use Rattle.lists.specs.Lists.{items}
 use Rattle.kinds.specs.Meaning.{Meaning}
 use Rattle.kinds.specs.Common.{Met}
 use Rattle.kinds.specs.declared.condition.Condition.{Condition}
@@ -17,10 +18,10 @@ pub record Description : Type 0 where
 
 -- what the memory of a pattern, and of a row, holds
 abbrev pub described : Pattern → Description
-described p = record { cells = take p.len p.cells; constraints = take p.count p.constraints }
+described p = record { cells = items p.cells; constraints = items p.constraints }
 
 abbrev pub cells_of : Row → List Cell
-cells_of r = take r.len r.cells
+cells_of r = items r.cells
 
 -- one variable-free term of symbols and known values
 abbrev pub Ground : List ℕ → Meaning → List Cell → Type 0

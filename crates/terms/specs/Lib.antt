@@ -5,3 +5,5 @@ pub mod Faults
 pub mod Shapes
 pub mod Reading
 pub mod Equality
+pub mod Short
+pub mod Rows

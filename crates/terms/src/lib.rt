@@ -4,7 +4,6 @@
 pub mod cell;
 pub mod constraint;
 pub mod fault;
-mod fill;
 pub mod pattern;
 pub mod patterns;
 pub mod row;

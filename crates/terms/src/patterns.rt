@@ -6,7 +6,6 @@ ghost use Rattle.terms.specs.Reading.{ConstraintsChecked, PatternRead};
 use crate::cell::{BLANK, Cell};
 use crate::constraint::{Constraint, NO_CONSTRAINT};
 use crate::fault::PatternFault;
-use crate::fill::filled;
 use crate::pattern::Pattern;
 use crate::row::Row;
 use crate::scan::check_cells;
@@ -14,6 +13,7 @@ use crate::shape::Shape;
 use crate::signature::Signature;
 use kinds::check;
 use kinds::kind::Kind;
+use lists::up_to::UpTo;
 
 // How many constraints there may be, and how many variables.
 const MOST: usize = 8;
@@ -46,35 +46,32 @@ impl Pattern {
         check_cells(signature, kind, Shape::Pattern, cells)?;
         check_constraints(kind, constraints)?;
         Ok(Pattern {
-            cells: filled(cells, BLANK),
-            len: cells.len(),
-            constraints: filled(constraints, NO_CONSTRAINT),
-            count: constraints.len(),
+            cells: UpTo::of(cells, BLANK),
+            constraints: UpTo::of(constraints, NO_CONSTRAINT),
         })
-    }
-
-    // A row as a pattern that only the row itself fits.
-    pub fn from_row(row: &Row) -> Pattern
-        ensures { described result ≡ record { cells = cells_of row.now; constraints = [] } }
-    {
-        let cells = row.cells();
-        Pattern {
-            cells: filled(cells, BLANK),
-            len: cells.len(),
-            constraints: [NO_CONSTRAINT; 8],
-            count: 0,
-        }
     }
 
     pub fn cells(&self) -> &[Cell]
         ensures { result.now ≡ (described self.now).cells }
     {
-        &self.cells[0..self.len]
+        self.cells.as_slice()
     }
 
     pub fn constraints(&self) -> &[Constraint]
         ensures { result.now ≡ (described self.now).constraints }
     {
-        &self.constraints[0..self.count]
+        self.constraints.as_slice()
+    }
+}
+
+// A row as a pattern that only the row itself fits.
+impl From<&Row> for Pattern {
+    ghost from_gives = { λ r p. described p ≡ record { cells = cells_of r.now; constraints = [] } };
+
+    fn from(row: &Row) -> Pattern {
+        Pattern {
+            cells: UpTo::of(row.cells(), BLANK),
+            constraints: UpTo::new(NO_CONSTRAINT),
+        }
     }
 }

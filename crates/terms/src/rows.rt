@@ -1,7 +1,9 @@
 // Rows as a caller writes them.
-ghost use Rattle.std.specs.Prelude.{◌≡◌, Decides};
+ghost use Rattle.std.specs.Prelude.{◌≡◌, Decides, MatchOption};
 ghost use Rattle.terms.specs.Fitting.{cells_of};
 ghost use Rattle.terms.specs.Reading.{RowRead};
+ghost use Rattle.terms.specs.Rows.{Storable};
+ghost use Rattle.terms.specs.Short.{all_short};
 ghost use Rattle.terms.specs.Equality.{cells_eq};
 ghost use Rattle.std.specs.Cmp.{on_per, partial_equiv_from_equiv};
 ghost use Rattle.std.specs.Cmp.Lexicographic.{lists_per};
@@ -10,14 +12,32 @@ ghost use Rattle.std.proofs.Common.{rules};
 
 use crate::cell::{BLANK, Cell};
 use crate::fault::PatternFault;
-use crate::fill::filled;
 use crate::row::Row;
 use crate::scan::check_cells;
 use crate::shape::Shape;
 use crate::signature::Signature;
 use kinds::kind::Kind;
+use lists::up_to::UpTo;
+
+// Whether every number has at most nine digits.
+fn are_short(cells: &[Cell]) -> bool
+    ensures { result ≡ all_short cells.now }
+{
+    cells.iter().all(|cell| cell.number < 1_000_000_000)
+}
 
 impl Row {
+    // Absent exactly where the cells cannot be kept as a row.
+    pub fn new(cells: &[Cell]) -> Option<Row>
+        ensures { MatchOption result (Storable cells.now → ⊥) (λ r. cells_of r ≡ cells.now) }
+    {
+        if cells.is_empty() || !are_short(cells) {
+            return None;
+        }
+        let cells = UpTo::copied(cells, BLANK)?;
+        Some(Row { cells })
+    }
+
     // The cells of a row, where they are one.
     pub fn read<K: Kind>(
         signature: &Signature,
@@ -28,15 +48,15 @@ impl Row {
     {
         check_cells(signature, kind, Shape::Row, cells)?;
         Ok(Row {
-            cells: filled(cells, BLANK),
-            len: cells.len(),
+            cells: UpTo::of(cells, BLANK),
         })
     }
 
     pub fn cells(&self) -> &[Cell]
-        ensures { result.now ≡ cells_of self.now }
+        ensures value { result.now ≡ cells_of self.now }
+        ensures storable { Storable result.now }
     {
-        &self.cells[0..self.len]
+        self.cells.as_slice()
     }
 }
 

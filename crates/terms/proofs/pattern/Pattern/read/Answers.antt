@@ -21,14 +21,3 @@ returns-in_err-check_constraints g c =
     let p = err_from_is_err_and c.from_residual-in_err-check_constraints.result c.from_residual-in_err-check_constraints.ensures.1 in
     rw (p.1, p.2) (inr (c.in_ok-check_cells.ensures, c.in_err-check_constraints.ensures))
 
-pub returns : goal.returns
-returns g c =
-    let cs = c.args.cells.now in
-    let ks = c.args.constraints.now in
-    let front = filled_front cs c.filled.result _ (24 - length cs) c.filled.ensures in
-    let back = filled_front ks c.filled-2.result _ (8 - length ks) c.filled-2.ensures in
-    let same = same_parts (take (length cs) c.filled.result) cs (take (length ks) c.filled-2.result) ks front back in (
-      same,
-      subst (ProperPattern c.args.signature.now.arities (g.K.Kind.means c.args.kind.now)) (sym same)
-          (record { cells = c.in_ok-check_cells.ensures; constraints = c.in_ok-check_constraints.ensures }),
-    )
