@@ -9,7 +9,7 @@ use Rattle.columns.proofs.Numbers.{columns_same, columns_length}
 use Rattle.stores.specs.declared.fault.StoreFault.TheVariants.{Full}
 use Rattle.stores.specs.Means.{Put}
 use Rattle.stores.specs.Places.{Place, count_at, taken, hits, held, rows_in, look, Apart, NoHit, AtFree}
-use Rattle.stores.specs.Rows.{Storable}
+use Rattle.terms.specs.Rows.{Storable}
 use Rattle.stores.proofs.Writes.{PutList, DropList, hit_find, hit_apart, put_hit, drop_hit, drop_none, put_full, free_apart, put_free}
 use Rattle.stores.proofs.Puts.{put_means, drop_means}
 use Rattle.image.specs.Lines.{slots, shown, blank_line}

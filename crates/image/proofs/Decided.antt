@@ -12,9 +12,10 @@ use Rattle.terms.specs.Proper.{RowCells}
 use Rattle.terms.specs.Reading.{CellFault, CellsRefused}
 use Rattle.columns.specs.Columns.{blank, columns, Short}
 use Rattle.columns.proofs.Numbers.{columns_below}
-use Rattle.stores.specs.declared.key.Key.{Key}
-use Rattle.stores.specs.Rows.{Storable, cells_of}
-use Rattle.stores.proofs.Laying.{storable_key}
+use Rattle.terms.specs.declared.row.Row.{Row}
+use Rattle.terms.specs.Fitting.{cells_of}
+use Rattle.terms.specs.Rows.{Storable}
+use Rattle.terms.proofs.Storing.{storable_row}
 use Rattle.image.specs.Lines.{Blanks, Marked, Scanned, shown, blank_line}
 use Rattle.image.specs.Texts.{Proper, BadField}
 use Rattle.image.proofs.Decoding.{first_bad, bad_cell, bad_mark, bad_tail, bad_end, good, blank_wrong, count_wrong, large_wrong, tail_seven}
@@ -38,8 +39,8 @@ module _ (M : Meaning) (sound : Sound M) where
   row_storable sig [] r = absurd (let w = r.term.whole in omega arith)
   row_storable sig (c ∷ cs) r = record { some = omega arith; few = r.few; short = all_fine (c ∷ cs) r.term.fine }
 
-pub key_some : (k : Key) (cs : List Cell) → cells_of k ≡ cs → 0 < length cs
-key_some k cs e = (subst Storable e (storable_key k)).some
+pub key_some : (k : Row) (cs : List Cell) → cells_of k ≡ cs → 0 < length cs
+key_some k cs e = (subst Storable e (storable_row k)).some
 
 -- the place that a cell's fault names
 same_place : (i r : ℕ) → ◌≡◌ {A = Option ℕ} (Some i) (Some r) → i ≡ r

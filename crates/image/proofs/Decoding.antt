@@ -10,7 +10,7 @@ use Rattle.terms.specs.declared.cell.Cell.{Cell}
 use Rattle.columns.specs.Columns.{blank, columns}
 use Rattle.columns.proofs.Numbers.{columns_length, columns_same}
 use Rattle.stores.specs.Places.{Place, row_at}
-use Rattle.stores.specs.Rows.{Storable}
+use Rattle.terms.specs.Rows.{Storable}
 use Rattle.image.specs.Lines.{Small, slot_text, slots, shown, blank_line, field, Blanks, Marked, Scanned}
 use Rattle.image.specs.Texts.{Proper, text, fields, BadField}
 use Rattle.image.proofs.Cutting.{reach, reach_cell, fields_length, fields_from, fields_to}

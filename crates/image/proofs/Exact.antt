@@ -8,7 +8,7 @@ use Rattle.refusals.proofs.Places.{first_improper}
 use Rattle.terms.specs.declared.cell.Cell.{Cell}
 use Rattle.stores.specs.declared.fault.StoreFault.{StoreFault}
 use Rattle.stores.specs.Places.{Place, row_at, taken, hits, held, Apart}
-use Rattle.stores.specs.Rows.{Storable, same_true, same_self}
+use Rattle.terms.specs.Rows.{Storable, same_true, same_self}
 use Rattle.stores.proofs.Writes.{none_hits, apart_parts}
 use Rattle.image.specs.Texts.{Proper, text, fields, LineFields}
 use Rattle.image.specs.Meaning.{line, lines_in, meaning, entries, Sound}

@@ -16,7 +16,8 @@ use Rattle.columns.specs.Steps.{worth}
 use Rattle.columns.proofs.Numbers.{reads_back, columns_length, columns_same}
 use Rattle.columns.proofs.Cells.{cell_marked}
 use Rattle.stores.specs.Places.{Holding, Place, row_at, count_at, taken, hits}
-use Rattle.stores.specs.Rows.{same, same_true, same_self, Storable}
+use Rattle.terms.specs.Equality.{cells_eq}
+use Rattle.terms.specs.Rows.{same_true, same_self, Storable}
 use Rattle.image.specs.Lines.{Scanned, slot_text, slots, field, shown, blank_line}
 use Rattle.image.specs.Texts.{Proper, text}
 use Rattle.image.specs.Meaning.{line, lines_in, cell_in, slot_in, cells_shown, meaning, entries, Shows}

@@ -6,7 +6,8 @@ use Rattle.kinds.specs.Meaning.{Meaning, Sound as KindSound}
 use Rattle.terms.specs.declared.cell.Cell.{Cell}
 use Rattle.terms.specs.Proper.{Arities, RowCells}
 use Rattle.stores.specs.Places.{Holding, Place, row_at, taken, hits, held, look, Apart}
-use Rattle.stores.specs.Rows.{Storable, same, same_true, same_self}
+use Rattle.terms.specs.Equality.{cells_eq}
+use Rattle.terms.specs.Rows.{Storable, same_true, same_self}
 use Rattle.stores.proofs.Writes.{none_find}
 use Rattle.image.specs.Lines.{slots}
 use Rattle.image.specs.Texts.{Proper, text}

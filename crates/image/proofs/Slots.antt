@@ -13,7 +13,7 @@ use Rattle.std.proofs.lemmas.Bool.{cases_eq, cases_lt}
 use Rattle.terms.specs.declared.cell.Cell.{Cell}
 use Rattle.columns.specs.Columns.{blank, columns, cell_text, Short, Writes, WritesCell}
 use Rattle.columns.specs.declared.number.NoRoom.{NoRoom}
-use Rattle.stores.specs.Rows.{Storable}
+use Rattle.terms.specs.Rows.{Storable}
 use Rattle.columns.proofs.Numbers.{columns_length}
 use Rattle.columns.proofs.Cells.{cell_length, cell_same, cell_marked}
 use Rattle.image.specs.Lines.{Small, slot_text, slots, shown, blank_line, field, Blanks, Scanned}

@@ -4,7 +4,7 @@ use Rattle.terms.specs.declared.cell.Cell.{Cell}
 use Rattle.stores.specs.declared.fault.StoreFault.{StoreFault}
 use Rattle.stores.specs.Means.{Put, Dropped}
 use Rattle.stores.specs.Places.{held, rows_in, look, NoHit, AtHit}
-use Rattle.stores.specs.Rows.{Storable}
+use Rattle.terms.specs.Rows.{Storable}
 use Rattle.image.specs.Lines.{shown, blank_line}
 use Rattle.image.specs.Meaning.{line, lines_in, entries, Sound, FirstFree}
 

@@ -7,7 +7,7 @@ use Rattle.std.specs.Str.{bytes_eq}
 use Rattle.terms.specs.declared.cell.Cell.{Cell}
 use Rattle.columns.specs.Columns.{blank}
 use Rattle.columns.specs.Steps.{worth}
-use Rattle.stores.specs.Short.{all_short}
+use Rattle.terms.specs.Short.{all_short}
 use Rattle.stores.specs.Means.{Allowed}
 use Rattle.stores.specs.Places.{Place, taken, held, Apart}
 use Rattle.image.specs.Lines.{field}

@@ -8,7 +8,7 @@ use Rattle.stores.specs.declared.fault.StoreFault.{StoreFault}
 use Rattle.stores.specs.declared.fault.StoreFault.TheVariants.{Length, Line, Again}
 use Rattle.stores.specs.Means.{Allowed}
 use Rattle.stores.specs.Places.{row_at, taken}
-use Rattle.stores.specs.Rows.{Storable}
+use Rattle.terms.specs.Rows.{Storable}
 use Rattle.image.specs.Texts.{BadField}
 use Rattle.image.specs.Meaning.{line, lines_in, meaning, Shows, Sound}
 use Rattle.image.specs.declared.fault.OpeningFault.{OpeningFault}

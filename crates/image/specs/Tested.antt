@@ -9,9 +9,9 @@ use Rattle.std.proofs.lemmas.Slice.Eq.{bytes_eq-Decides}
 use Rattle.std.proofs.lemmas.Bool.{and_parts, and_from, ltb-true, lt-ltb, leb-true, le-leb, cases_eq}
 use Rattle.stores.specs.Places.{Place, count_at, held, rows_in, Apart}
 use Rattle.stores.specs.Maps.{held_room}
-use Rattle.stores.specs.Rows.{Storable}
-use Rattle.stores.specs.Short.{all_short}
-use Rattle.stores.proofs.Laying.{short_all, short_from}
+use Rattle.terms.specs.Rows.{Storable}
+use Rattle.terms.specs.Short.{all_short}
+use Rattle.terms.proofs.Storing.{short_all, short_from}
 use Rattle.image.specs.Texts.{Proper, text}
 use Rattle.image.specs.Meaning.{line, lines_in, meaning, entries, Shows, Sound, fine, shown_line, shown_to}
 

@@ -3,7 +3,8 @@ ghost use Rattle.std.specs.Prelude.{◌≡◌, MatchOption};
 ghost use Rattle.std.specs.Option.{option_map};
 ghost use Rattle.stores.specs.Means.{count_of};
 ghost use Rattle.stores.specs.Places.{held, look};
-ghost use Rattle.stores.specs.Rows.{cells_of, Storable};
+ghost use Rattle.terms.specs.Fitting.{cells_of};
+ghost use Rattle.terms.specs.Rows.{Storable};
 ghost use Rattle.image.specs.Meaning.{entries, Sound};
 ghost use Rattle.image.specs.Change.{AtRow, NoRow, Written, Removed};
 
@@ -12,12 +13,12 @@ use crate::lines::{first_blank, place_of};
 use columns::number::read_number;
 use stores::count::Count;
 use stores::fault::StoreFault;
-use stores::key::Key;
+use terms::row::Row;
 
 const NOTHING: Count = Count { value: 0 };
 
 // The line of a row.
-fn place_in(image: &[u8], key: &Key) -> Option<usize>
+fn place_in(image: &[u8], key: &Row) -> Option<usize>
     requires { Sound Storable image.now }
     ensures { MatchOption result (NoRow image.now (cells_of key.now)) (λ k. AtRow image.now (cells_of key.now) k) }
 {
@@ -26,7 +27,7 @@ fn place_in(image: &[u8], key: &Key) -> Option<usize>
     place_of(image, image.len() / 128, &text[0..120])
 }
 
-pub(crate) fn find_in(image: &[u8], key: &Key) -> Option<Count>
+pub(crate) fn find_in(image: &[u8], key: &Row) -> Option<Count>
     requires { Sound Storable image.now }
     ensures { option_map count_of result ≡ look (held (entries image.now)) (cells_of key.now) }
 {
@@ -36,7 +37,7 @@ pub(crate) fn find_in(image: &[u8], key: &Key) -> Option<Count>
 }
 
 // Writes the row's line, or the first blank line for a new row, and no other.
-pub(crate) fn put_in(image: &mut [u8], key: &Key, count: Count) -> Result<(), StoreFault>
+pub(crate) fn put_in(image: &mut [u8], key: &Row, count: Count) -> Result<(), StoreFault>
     requires { Sound Storable image.old }
     ensures { Written image.old image.new (cells_of key.now) (count_of count) result }
 {
@@ -58,7 +59,7 @@ pub(crate) fn put_in(image: &mut [u8], key: &Key, count: Count) -> Result<(), St
 }
 
 // Blanks the row's line, and no other.
-pub(crate) fn remove_in(image: &mut [u8], key: &Key) -> bool
+pub(crate) fn remove_in(image: &mut [u8], key: &Row) -> bool
     requires { Sound Storable image.old }
     ensures { Removed image.old image.new (cells_of key.now) result }
 {

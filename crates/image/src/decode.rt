@@ -10,7 +10,7 @@ use columns::number::read_number;
 use kinds::kind::Kind;
 use stores::count::Count;
 use stores::entry::Entry;
-use stores::key::Key;
+use terms::row::Row;
 use terms::scan::check_cells;
 use terms::shape::Shape;
 use terms::signature::Signature;
@@ -26,7 +26,7 @@ pub(crate) fn decode<K: Kind>(
 {
     let found = read_cells(line);
     let cells = found.as_slice();
-    let Some(key) = Key::new(cells) else {
+    let Some(key) = Row::new(cells) else {
         if let Some(place) = first_marked(line, 0) {
             return Err(place);
         }

@@ -1,17 +1,17 @@
 // The line of a row and its count, and the blank line.
 ghost use Rattle.std.specs.Prelude.{◌≡◌, length};
 ghost use Rattle.stores.specs.Means.{count_of};
-ghost use Rattle.stores.specs.Rows.{cells_of};
+ghost use Rattle.terms.specs.Fitting.{cells_of};
 ghost use Rattle.image.specs.Lines.{shown, blank_line};
 
 use columns::blank::write_blank;
 use columns::cell::write_cell;
 use columns::number::write_number;
 use stores::count::Count;
-use stores::key::Key;
+use terms::row::Row;
 
 // Writes the line of a row and its count. A key's numbers and a count have room in their columns.
-pub(crate) fn encode(key: &Key, count: Count, line: &mut [u8])
+pub(crate) fn encode(key: &Row, count: Count, line: &mut [u8])
     requires { length line.old ≡ 128 }
     ensures { line.new ≡ shown (cells_of key.now) (count_of count) }
 {

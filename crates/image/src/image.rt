@@ -3,7 +3,7 @@ ghost use Rattle.std.specs.Prelude.{◌≡◌, ◌*◌, ◌≤◌, true, length}
 ghost use Rattle.stores.specs.Maps.{listed_of, look_small};
 ghost use Rattle.stores.specs.Places.{held, rows_in, look, Apart};
 ghost use Rattle.stores.specs.Means.{count_of, Put, Dropped};
-ghost use Rattle.stores.specs.Rows.{cells_of};
+ghost use Rattle.terms.specs.Fitting.{cells_of};
 ghost use Rattle.image.specs.Change.{PutLines, DropLines};
 ghost use Rattle.image.specs.Meaning.{lines_in, entries, shown_to};
 ghost use Rattle.image.specs.Tested.{entries_small, entries_room};
@@ -12,7 +12,7 @@ use crate::memory::Lines;
 use stores::count::Count;
 use stores::entry::{Entry, Size};
 use stores::fault::StoreFault;
-use stores::key::Key;
+use terms::row::Row;
 use stores::store::Store;
 
 // An image of 1 to 4,096 lines, each free or the line of a row and its count, no row twice.
@@ -43,12 +43,12 @@ impl<'a> Store for Image<'a> {
 
     ghost room = { λ t. entries_room t.lines.bytes.now };
 
-    fn find(&self, key: &Key) -> Option<Count> {
+    fn find(&self, key: &Row) -> Option<Count> {
         self.lines.find(key)
     }
 
     // The row's line is written, or for a new row the first blank one, and no other.
-    fn put(&mut self, key: &Key, count: Count) -> Result<(), StoreFault>
+    fn put(&mut self, key: &Row, count: Count) -> Result<(), StoreFault>
         ensures put { Put (look (held (entries self.old.lines.bytes.now))) (look (held (entries self.new.lines.bytes.now))) (length (rows_in (held (entries self.old.lines.bytes.now)))) (lines_in self.old.lines.bytes.now) (cells_of key.now) (count_of count) result }
         ensures places { lines_in self.new.lines.bytes.now ≡ lines_in self.old.lines.bytes.now }
         ensures lines { PutLines self.old.lines.bytes.now self.new.lines.bytes.now (cells_of key.now) (count_of count) result }
@@ -57,7 +57,7 @@ impl<'a> Store for Image<'a> {
     }
 
     // The row's line is blanked, and no other.
-    fn remove(&mut self, key: &Key) -> bool
+    fn remove(&mut self, key: &Row) -> bool
         ensures dropped { Dropped (look (held (entries self.old.lines.bytes.now))) (look (held (entries self.new.lines.bytes.now))) (cells_of key.now) result }
         ensures places { lines_in self.new.lines.bytes.now ≡ lines_in self.old.lines.bytes.now }
         ensures lines { DropLines self.old.lines.bytes.now self.new.lines.bytes.now (cells_of key.now) result }

@@ -3,7 +3,7 @@ ghost use Rattle.std.specs.Prelude.{◌≡◌, ◌*◌, ◌≤◌, length, count
 ghost use Rattle.std.specs.List.{slice_get};
 ghost use Rattle.std.specs.Option.{option_map};
 ghost use Rattle.stores.specs.Places.{held, taken};
-ghost use Rattle.stores.specs.Rows.{Storable};
+ghost use Rattle.terms.specs.Rows.{Storable};
 ghost use Rattle.stores.specs.Table.{holding_of};
 ghost use Rattle.image.specs.Meaning.{meaning, entries, Shows, Sound, NoKey, AtKey, FirstFree};
 
@@ -12,7 +12,7 @@ use columns::blank::is_blank;
 use columns::number::read_number;
 use stores::count::Count;
 use stores::entry::Entry;
-use stores::key::Key;
+use terms::row::Row;
 
 // A line, of the first n, that begins with the cells of a row's line.
 pub(crate) fn place_of(image: &[u8], n: usize, front: &[u8]) -> Option<usize>
@@ -60,7 +60,7 @@ fn read_line(line: &[u8]) -> Option<Entry>
     ensures { option_map holding_of result ≡ meaning line.now }
 {
     let found = read_cells(line);
-    let key = Key::new(found.as_slice())?;
+    let key = Row::new(found.as_slice())?;
     let value = read_number(&line[120..127])?;
     let count = Count::new(value)?;
     Some(Entry { key, count })

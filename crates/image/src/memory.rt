@@ -4,7 +4,8 @@ ghost use Rattle.std.specs.List.{slice_get};
 ghost use Rattle.std.specs.Option.{option_map};
 ghost use Rattle.stores.specs.Means.{count_of};
 ghost use Rattle.stores.specs.Places.{held, look, taken};
-ghost use Rattle.stores.specs.Rows.{cells_of, Storable};
+ghost use Rattle.terms.specs.Fitting.{cells_of};
+ghost use Rattle.terms.specs.Rows.{Storable};
 ghost use Rattle.stores.specs.Table.{holding_of};
 ghost use Rattle.image.specs.Meaning.{lines_in, entries, Sound};
 ghost use Rattle.image.specs.Change.{Written, Removed};
@@ -14,7 +15,7 @@ use crate::lines::{nth_row, used_lines};
 use stores::count::Count;
 use stores::entry::{Entry, Size};
 use stores::fault::StoreFault;
-use stores::key::Key;
+use terms::row::Row;
 
 // Plain bytes, so that a part of them can be lent; the image around them says that they are sound.
 #[derive(Drop)]
@@ -23,21 +24,21 @@ pub struct Lines<'a> {
 }
 
 impl Lines<'_> {
-    pub(crate) fn find(&self, key: &Key) -> Option<Count>
+    pub(crate) fn find(&self, key: &Row) -> Option<Count>
         requires { Sound Storable self.now.bytes.now }
         ensures { option_map count_of result ≡ look (held (entries self.now.bytes.now)) (cells_of key.now) }
     {
         find_in(self.bytes, key)
     }
 
-    pub(crate) fn put(&mut self, key: &Key, count: Count) -> Result<(), StoreFault>
+    pub(crate) fn put(&mut self, key: &Row, count: Count) -> Result<(), StoreFault>
         requires { Sound Storable self.old.bytes.now }
         ensures { Written self.old.bytes.now self.new.bytes.now (cells_of key.now) (count_of count) result }
     {
         put_in(self.bytes, key, count)
     }
 
-    pub(crate) fn remove(&mut self, key: &Key) -> bool
+    pub(crate) fn remove(&mut self, key: &Row) -> bool
         requires { Sound Storable self.old.bytes.now }
         ensures { Removed self.old.bytes.now self.new.bytes.now (cells_of key.now) result }
     {

@@ -2,7 +2,7 @@
 ghost use Rattle.std.specs.Prelude.{◌≡◌, ◌<◌, MatchResult};
 ghost use Rattle.refusals.specs.Checks.{Checked};
 ghost use Rattle.terms.specs.Proper.{RowCells};
-ghost use Rattle.stores.specs.Rows.{Storable};
+ghost use Rattle.terms.specs.Rows.{Storable};
 ghost use Rattle.stores.specs.declared.fault.StoreFault.TheVariants.{Length};
 ghost use Rattle.image.specs.Laws.{Exactly};
 ghost use Rattle.image.specs.Meaning.{lines_in, Sound};

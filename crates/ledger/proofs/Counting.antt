@@ -6,7 +6,7 @@ use Rattle.std.proofs.lemmas.Option.{slice_get-get_or}
 use Rattle.maps.specs.Maps.{In, Once, Map, Figures}
 use Rattle.rolls.proofs.Entries.{at_in}
 use Rattle.terms.specs.declared.cell.Cell.{Cell}
-use Rattle.stores.specs.Rows.{decided}
+use Rattle.terms.specs.Rows.{decided}
 use Rattle.serial.specs.Rights.{Change.written, Change.struck}
 use Rattle.serial.specs.Machine.{Pending, KeysOnce, pending_for, with_own}
 use Rattle.serial.specs.Surveys.{Unchanged, Changed}

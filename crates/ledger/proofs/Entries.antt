@@ -4,9 +4,10 @@ use mathlib.Core.Logic.{if_pos, if_neg}
 use Rattle.maps.specs.Maps.{In}
 use Rattle.maps.proofs.Lists.{in_push}
 use Rattle.terms.specs.declared.cell.Cell.{Cell}
-use Rattle.stores.specs.Rows.{cells_of, decided}
+use Rattle.terms.specs.Fitting.{cells_of}
+use Rattle.terms.specs.Rows.{decided}
 use Rattle.stores.specs.declared.count.Count.{Count}
-use Rattle.stores.specs.declared.key.Key.{Key}
+use Rattle.terms.specs.declared.row.Row.{Row}
 use Rattle.serial.specs.Machine.{is_for, pending_for, enter}
 use Rattle.ledger.specs.declared.entry.PendingChange.{PendingChange}
 use Rattle.ledger.specs.Words.{change_of, pending_of}
@@ -42,7 +43,7 @@ module _ (t : ℕ) (q : List Cell) where
       if_neg (is_for decided t q (pending_of c)) (f c (inl refl)) _ _ ∙ pending_at l k d (omega arith) e (λ b i. f b (inr i))
 
   -- the change becomes this one: in its place, or at the end
-  module _ (row : Key) (key : cells_of row ≡ q) (v : Option Count) where
+  module _ (row : Row) (key : cells_of row ≡ q) (v : Option Count) where
     abbrev made : PendingChange
     made = record { owner = t; row = row; change = v }
 

@@ -13,7 +13,8 @@ use Rattle.serial.specs.Machine.{Pending, KeysOnce, with_own}
 use Rattle.serial.specs.Entering.{absence, chosen, alters, entered, Room}
 use Rattle.serial.proofs.Entering.{entered_append, commit_enters, sized_own, room_front, room_back, room_new, counts_chosen}
 use Rattle.terms.specs.declared.cell.Cell.{Cell}
-use Rattle.stores.specs.Rows.{cells_of, decided}
+use Rattle.terms.specs.Fitting.{cells_of}
+use Rattle.terms.specs.Rows.{decided}
 use Rattle.stores.specs.Means.{count_of, Put}
 use Rattle.stores.specs.declared.count.Count.{Count}
 use Rattle.stores.specs.declared.fault.StoreFault.{StoreFault}

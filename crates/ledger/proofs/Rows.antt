@@ -9,7 +9,7 @@ use Rattle.terms.specs.Proper.{RowCells, ProperPattern}
 use Rattle.terms.proofs.Leaving.{leaves_few}
 use Rattle.unification.proofs.Theory.{image_fix}
 use Rattle.unification.proofs.Cells.{grounded, steady}
-use Rattle.stores.specs.Rows.{Storable}
+use Rattle.terms.specs.Rows.{Storable}
 
 -- a symbol stays where it is
 starts : (sig : List ℕ) (σ : Subst) (cs : List Cell) → Are sig 1 cs → Starts cs → Starts (apply σ cs)

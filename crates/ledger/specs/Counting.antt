@@ -4,9 +4,9 @@ use Rattle.kinds.specs.Meaning.{Meaning}
 use Rattle.maps.specs.Maps.{In}
 use Rattle.terms.specs.declared.cell.Cell.{Cell}
 use Rattle.terms.specs.declared.pattern.Pattern.{Pattern}
-use Rattle.terms.specs.Fitting.{Description, Fits}
+use Rattle.terms.specs.Fitting.{Description, Fits, cells_of}
 use Rattle.stores.specs.Means.{count_of}
-use Rattle.stores.specs.Rows.{cells_of, decided}
+use Rattle.terms.specs.Rows.{decided}
 use Rattle.stores.specs.declared.count.Count.{Count}
 use Rattle.serial.specs.Rights.{Change.written, Change.struck}
 use Rattle.serial.specs.Machine.{pending_for}

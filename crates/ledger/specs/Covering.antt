@@ -3,8 +3,7 @@ use Rattle.std.specs.Prelude.{◌≡◌, ℕ, ◌<◌, Bool, true, List, length,
 use Rattle.kinds.specs.Meaning.{Meaning}
 use Rattle.maps.specs.Maps.{In}
 use Rattle.terms.specs.declared.cell.Cell.{Cell}
-use Rattle.terms.specs.Fitting.{described, Fits}
-use Rattle.stores.specs.Rows.{cells_of}
+use Rattle.terms.specs.Fitting.{described, Fits, cells_of}
 use Rattle.serial.specs.Rights.{Right.writing}
 use Rattle.ledger.specs.declared.entry.PendingChange.{PendingChange}
 use Rattle.ledger.specs.declared.entry.Reservation.{Reservation}

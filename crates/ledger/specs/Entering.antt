@@ -2,7 +2,7 @@
 use Rattle.std.specs.Prelude.{◌≡◌, ℕ, ◌≤◌, List, map, Ok, Err, Result}
 use Rattle.maps.specs.Maps.{Map, Same, Sized}
 use Rattle.terms.specs.declared.cell.Cell.{Cell}
-use Rattle.stores.specs.Rows.{decided}
+use Rattle.terms.specs.Rows.{decided}
 use Rattle.stores.specs.declared.fault.StoreFault.{StoreFault}
 use Rattle.stores.specs.declared.fault.StoreFault.TheVariants.{Full}
 use Rattle.serial.specs.Machine.{with_own}

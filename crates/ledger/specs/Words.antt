@@ -2,8 +2,8 @@
 use Rattle.std.specs.Prelude.{ℕ, List, Some, None, Option}
 use Rattle.kinds.specs.Meaning.{Meaning}
 use Rattle.terms.specs.declared.cell.Cell.{Cell}
-use Rattle.terms.specs.Fitting.{Description, described, Fits}
-use Rattle.stores.specs.Rows.{cells_of, decided}
+use Rattle.terms.specs.Fitting.{Description, described, Fits, cells_of}
+use Rattle.terms.specs.Rows.{decided}
 use Rattle.stores.specs.Means.{count_of}
 use Rattle.stores.specs.declared.count.Count.{Count}
 use Rattle.serial.specs.Language.{Language}

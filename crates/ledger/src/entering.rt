@@ -3,7 +3,7 @@ ghost use Rattle.std.specs.Prelude.{◌≡◌, ◌≤◌, true, false, [], ◌�
 ghost use Rattle.maps.specs.Maps.{Same};
 ghost use Rattle.serial.specs.Entering.{Room, alters, chosen, entered};
 ghost use Rattle.serial.specs.Machine.{KeysOnce};
-ghost use Rattle.stores.specs.Rows.{decided};
+ghost use Rattle.terms.specs.Rows.{decided};
 ghost use Rattle.ledger.specs.Words.{pending_of};
 ghost use Rattle.ledger.specs.Entering.{Entered};
 

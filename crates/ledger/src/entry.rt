@@ -1,7 +1,7 @@
 // The entries of the rolls, each with the transaction that it is of.
 use rolls::entry::Owned;
 use stores::count::Count;
-use stores::key::Key;
+use terms::row::Row;
 use terms::pattern::Pattern;
 
 // An open transaction, and the planner that began it.
@@ -29,7 +29,7 @@ pub struct Reservation {
 #[derive(Clone, Copy)]
 pub struct PendingChange {
     pub owner: u32,
-    pub row: Key,
+    pub row: Row,
     pub change: Option<Count>,
 }
 

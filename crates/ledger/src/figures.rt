@@ -2,9 +2,9 @@
 ghost use Rattle.std.specs.Prelude.{◌*◌, ◌≤◌, List, map, length, Decides};
 ghost use Rattle.maps.specs.Maps.{Figures, Map};
 ghost use Rattle.terms.specs.declared.cell.Cell.{Cell};
-ghost use Rattle.terms.specs.Fitting.{Fits, described};
+ghost use Rattle.terms.specs.Fitting.{Fits, described, cells_of};
 ghost use Rattle.terms.specs.Proper.{ProperPattern};
-ghost use Rattle.stores.specs.Rows.{cells_of as key_cells, decided};
+ghost use Rattle.terms.specs.Rows.{decided};
 ghost use Rattle.unification.specs.Sheets.{Blank};
 ghost use Rattle.serial.specs.Machine.{KeysOnce, with_own};
 ghost use Rattle.serial.specs.Surveys.{Changed as OwnRows, Unchanged};
@@ -16,7 +16,7 @@ use crate::entry::{PendingChange, Reservation};
 use crate::fitting::fits_key;
 use kinds::kind::Kind;
 use stores::count::Count;
-use stores::key::Key;
+use terms::row::Row;
 use stores::store::Store;
 use terms::cell::Cell;
 use terms::pattern::Pattern;
@@ -41,12 +41,12 @@ fn stands<K: Kind>(
     changes: &[PendingChange],
     transaction: u32,
     pattern: &Pattern,
-    row: &Key,
+    row: &Row,
     sheet: &mut [Cell; 16],
 ) -> bool
     requires pattern { ProperPattern signature.now.arities (K.Kind.means kind.now) (described pattern.now) }
     requires blank { Blank sheet.old }
-    ensures answer { Decides result (Stands signature.now.arities (K.Kind.means kind.now) transaction (described pattern.now) changes.now (key_cells row.now)) }
+    ensures answer { Decides result (Stands signature.now.arities (K.Kind.means kind.now) transaction (described pattern.now) changes.now (cells_of row.now)) }
     ensures blank { Blank sheet.new }
 {
     match change_for(changes, transaction, row) {

@@ -3,7 +3,7 @@ ghost use Rattle.std.specs.Prelude.{◌≡◌, Decides};
 ghost use Rattle.maps.specs.Maps.{In};
 ghost use Rattle.terms.specs.Fitting.{Fits, cells_of, described};
 ghost use Rattle.terms.specs.Proper.{ProperPattern, RowCells};
-ghost use Rattle.stores.specs.Rows.{Storable, cells_of as key_cells};
+ghost use Rattle.terms.specs.Rows.{Storable};
 ghost use Rattle.unification.specs.Sheets.{Blank};
 ghost use Rattle.ledger.specs.declared.entry.Reservation.{Reservation};
 ghost use Rattle.ledger.specs.Covering.{Covered, Covers};
@@ -11,18 +11,17 @@ ghost use Rattle.ledger.specs.Covering.{Covered, Covers};
 use crate::entry::Reservation;
 use compare::overlap::fits;
 use kinds::kind::Kind;
-use stores::key::Key;
+use terms::row::Row;
 use terms::cell::Cell;
 use terms::pattern::Pattern;
-use terms::row::Row;
 use terms::signature::Signature;
 
 // A row as stores keep it.
-pub fn key_of(row: &Row) -> Key
+pub fn key_of(row: &Row) -> Row
     requires { Storable (cells_of row.now) }
-    ensures { key_cells result ≡ cells_of row.now }
+    ensures { cells_of result ≡ cells_of row.now }
 {
-    match Key::new(row.cells()) {
+    match Row::new(row.cells()) {
         Some(key) => key,
         None => unreachable(),
     }
@@ -32,13 +31,13 @@ pub fn key_of(row: &Row) -> Key
 pub fn fits_key<K: Kind>(
     kind: &K,
     signature: &Signature,
-    key: &Key,
+    key: &Row,
     pattern: &Pattern,
     sheet: &mut [Cell; 16],
 ) -> bool
     requires pattern { ProperPattern signature.now.arities (K.Kind.means kind.now) (described pattern.now) }
     requires blank { Blank sheet.old }
-    ensures answer { Decides result (Fits signature.now.arities (K.Kind.means kind.now) (key_cells key.now) (described pattern.now)) }
+    ensures answer { Decides result (Fits signature.now.arities (K.Kind.means kind.now) (cells_of key.now) (described pattern.now)) }
     ensures blank { Blank sheet.new }
 {
     match Row::read(signature, kind, key.cells()) {

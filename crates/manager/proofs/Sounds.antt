@@ -16,11 +16,11 @@ use Rattle.ledger.specs.Words.{pending_of}
 use Rattle.manager.specs.declared.memory.Memory.{Memory}
 use Rattle.manager.specs.declared.state.Manager.{Manager}
 use Rattle.manager.specs.Book.{Book, Given, Sound, Fixed, book_of}
-use Rattle.terms.specs.Fitting.{described}
+use Rattle.terms.specs.Fitting.{described, cells_of}
 use Rattle.terms.specs.Proper.{ProperPattern}
 use Rattle.manager.specs.Ending.{Begun, ended}
 use Rattle.terms.specs.Proper.{RowCells}
-use Rattle.stores.specs.Rows.{cells_of, decided}
+use Rattle.terms.specs.Rows.{decided}
 use Rattle.serial.specs.Rights.{Change}
 use Rattle.serial.proofs.Rolls.{keys_enter}
 use Rattle.manager.specs.Reserving.{Reserved, tallied}

@@ -3,9 +3,8 @@ use Rattle.std.specs.Prelude.{◌≡◌, ℕ, ◌≤◌, List, map, length, take
 use Rattle.kinds.specs.Meaning.{Meaning}
 use Rattle.maps.specs.Maps.{Map, In, Once}
 use Rattle.terms.specs.declared.cell.Cell.{Cell}
-use Rattle.terms.specs.Fitting.{Description, described}
+use Rattle.terms.specs.Fitting.{Description, described, cells_of}
 use Rattle.terms.specs.Proper.{RowCells, ProperPattern}
-use Rattle.stores.specs.Rows.{cells_of}
 use Rattle.serial.specs.Machine.{State, KeysOnce}
 use Rattle.ledger.specs.declared.entry.Transaction.{Transaction}
 use Rattle.ledger.specs.declared.entry.Reservation.{Reservation}

@@ -3,7 +3,7 @@ use Rattle.std.specs.Prelude.{◌≡◌, ℕ, suc, ◌<◌, ◌≤◌, List, [],
 use Rattle.maps.specs.Maps.{Map, Same}
 use Rattle.terms.specs.declared.cell.Cell.{Cell}
 use Rattle.rolls.specs.Rolls.{Has, without}
-use Rattle.stores.specs.Rows.{decided}
+use Rattle.terms.specs.Rows.{decided}
 use Rattle.stores.specs.declared.fault.StoreFault.TheVariants.{Full, Length}
 use Rattle.serial.specs.Machine.{with_own}
 use Rattle.ledger.specs.Entering.{AtMost}

@@ -8,7 +8,8 @@ use Rattle.terms.specs.declared.row.Row.{Row}
 use Rattle.terms.specs.Fitting as fitting
 use Rattle.terms.specs.Proper.{RowCells}
 use Rattle.terms.specs.Reading.{CellsRefused}
-use Rattle.stores.specs.Rows.{cells_of, decided}
+use Rattle.terms.specs.Fitting.{cells_of}
+use Rattle.terms.specs.Rows.{decided}
 use Rattle.serial.specs.Rights.{Change}
 use Rattle.serial.specs.Machine.{pending_for, enter}
 use Rattle.ledger.specs.declared.entry.PendingChange.{PendingChange}
@@ -27,7 +28,7 @@ proper_row sig M cs = (RowCells sig M cs, λ f. (e : PatternFault) × (f ≡ Pat
 
 -- a row that is read is as it was written
 abbrev pub RowChecked : List ℕ → Meaning → List Cell → Result Row ManagerFault → Type 0
-RowChecked sig M cs (Ok r) = (fitting.cells_of r ≡ cs) × RowCells sig M cs
+RowChecked sig M cs (Ok r) = (cells_of r ≡ cs) × RowCells sig M cs
 RowChecked sig M cs (Err f) = (proper_row sig M cs).1 f
 
 -- a full roll has a change of t's for the row already

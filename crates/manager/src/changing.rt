@@ -5,7 +5,6 @@ ghost use Rattle.maps.specs.Maps.{In};
 ghost use Rattle.terms.specs.Fitting.{cells_of};
 ghost use Rattle.terms.specs.Proper.{RowCells};
 ghost use Rattle.stores.specs.Means.{count_of};
-ghost use Rattle.stores.specs.Rows.{cells_of as key_cells};
 ghost use Rattle.unification.specs.Sheets.{Blank};
 ghost use Rattle.serial.specs.Rights.{Change.struck, Change.written};
 ghost use Rattle.ledger.specs.declared.entry.PendingChange.{PendingChange};
@@ -25,10 +24,9 @@ use ledger::changes::{change_for, place_of};
 use ledger::entry::PendingChange;
 use ledger::fitting::{covered, key_of};
 use stores::count::Count;
-use stores::key::Key;
+use terms::row::Row;
 use stores::store::Store;
 use terms::cell::{BLANK, Cell};
-use terms::row::Row;
 use terms::signature::Signature;
 
 // The row that a caller writes.
@@ -71,10 +69,10 @@ impl<K: Kind> Manager<K> {
         memory: &Memory,
         store: &S,
         transaction: u32,
-        row: &Key,
+        row: &Row,
     ) -> Option<Count>
         requires { Sizes memory.now }
-        ensures { option_map count_of result ≡ own_map transaction (book_of self.now memory.now) (S.Store.means store.now) (key_cells row.now) }
+        ensures { option_map count_of result ≡ own_map transaction (book_of self.now memory.now) (S.Store.means store.now) (cells_of row.now) }
     {
         match change_for(self.changes.entries(memory.changes), transaction, row) {
             Some(change) => change,
@@ -106,9 +104,9 @@ impl<K: Kind> Manager<K> {
         Ok(self.seen(memory, store, transaction, &key))
     }
 
-    fn own_place(&self, memory: &Memory, transaction: u32, row: &Key) -> Option<usize>
+    fn own_place(&self, memory: &Memory, transaction: u32, row: &Row) -> Option<usize>
         requires { Sizes memory.now }
-        ensures { MatchOption result ((c : PendingChange) → In c (book_of self.now memory.now).changes → ¬ For transaction (key_cells row.now) c) (FirstFor transaction (key_cells row.now) (book_of self.now memory.now).changes) }
+        ensures { MatchOption result ((c : PendingChange) → In c (book_of self.now memory.now).changes → ¬ For transaction (cells_of row.now) c) (FirstFor transaction (cells_of row.now) (book_of self.now memory.now).changes) }
     {
         place_of(self.changes.entries(memory.changes), transaction, row)
     }
@@ -118,11 +116,11 @@ impl<K: Kind> Manager<K> {
         &mut self,
         memory: &mut Memory,
         transaction: u32,
-        row: &Key,
+        row: &Row,
         change: Option<Count>,
     ) -> bool
         requires { Sizes memory.old }
-        ensures answer { MatchBool result (HasPlace transaction (key_cells row.now) (book_of self.old memory.old) × Changed transaction (key_cells row.now) (change_of change) (book_of self.old memory.old) (book_of self.new memory.new)) ((HasPlace transaction (key_cells row.now) (book_of self.old memory.old) → ⊥) × (book_of self.new memory.new ≡ book_of self.old memory.old)) }
+        ensures answer { MatchBool result (HasPlace transaction (cells_of row.now) (book_of self.old memory.old) × Changed transaction (cells_of row.now) (change_of change) (book_of self.old memory.old) (book_of self.new memory.new)) ((HasPlace transaction (cells_of row.now) (book_of self.old memory.old) → ⊥) × (book_of self.new memory.new ≡ book_of self.old memory.old)) }
         ensures fixed { Fixed self.old self.new }
         ensures sizes { Sizes memory.old → Sizes memory.new }
     {

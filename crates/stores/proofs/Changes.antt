@@ -3,8 +3,7 @@ use Rattle.std.proofs.Common.{◌≡◌, ℕ, true, false, List, length, set, So
 use Rattle.std.proofs.lemmas.Bool.{both_ways}
 use Rattle.terms.specs.declared.cell.Cell.{Cell}
 use Rattle.stores.specs.declared.entry.Entry.{Entry}
-use Rattle.stores.specs.declared.entry.Record.{Record}
-use Rattle.stores.specs.declared.entry.Record.TheVariants.{Free, Used}
+use Rattle.stores.specs.Table.{Record}
 use Rattle.stores.specs.declared.fault.StoreFault.TheVariants.{Full}
 use Rattle.stores.specs.Means.{count_of, row_of, Put, Dropped}
 use Rattle.stores.specs.Places.{taken, held, rows_in, look, Apart, NoHit, AtHit, AtFree}
@@ -26,11 +25,11 @@ module _ (rs : List Record) (apart : Apart (held (contents rs))) where
 
   module _ (e : Entry) where
     module _ (k : ℕ) (at : AtHit (contents rs) (row_of e) k) where
-      pub replace_apart : Apart (held (contents (set rs k (Used e))))
-      replace_apart = still_apart k (Used e) (hit_apart (contents rs) (row_of e) k at apart None (Some (holding_of e)) (λ _. refl))
+      pub replace_apart : Apart (held (contents (set rs k (Some e))))
+      replace_apart = still_apart k (Some e) (hit_apart (contents rs) (row_of e) k at apart None (Some (holding_of e)) (λ _. refl))
 
-      pub replace_put : Put (look (held (contents rs))) (look (held (contents (set rs k (Used e))))) (length (rows_in (held (contents rs)))) (length rs) (row_of e) (count_of e.count) (Ok tt)
-      replace_put = put_at k (Used e) (row_of e) (count_of e.count) (put_hit (contents rs) (row_of e) k at apart None (Some (holding_of e)) (λ _. refl) refl refl tt)
+      pub replace_put : Put (look (held (contents rs))) (look (held (contents (set rs k (Some e))))) (length (rows_in (held (contents rs)))) (length rs) (row_of e) (count_of e.count) (Ok tt)
+      replace_put = put_at k (Some e) (row_of e) (count_of e.count) (put_hit (contents rs) (row_of e) k at apart None (Some (holding_of e)) (λ _. refl) refl refl tt)
 
     module _ (none : NoHit (contents rs) (row_of e) (length rs)) where
       none' : NoHit (contents rs) (row_of e) (length (contents rs))
@@ -43,21 +42,21 @@ module _ (rs : List Record) (apart : Apart (held (contents rs))) where
           (put_full (contents rs) (row_of e) none' (all ∙ sym (contents_length rs)) (count_of e.count)))
 
       module _ (k : ℕ) (at : AtFree (contents rs) k) where
-        pub add_apart : Apart (held (contents (set rs k (Used e))))
-        add_apart = still_apart k (Used e) (free_apart (contents rs) (row_of e) none' k at None (Some (holding_of e)) refl refl apart)
+        pub add_apart : Apart (held (contents (set rs k (Some e))))
+        add_apart = still_apart k (Some e) (free_apart (contents rs) (row_of e) none' k at None (Some (holding_of e)) refl refl apart)
 
-        pub add_put : Put (look (held (contents rs))) (look (held (contents (set rs k (Used e))))) (length (rows_in (held (contents rs)))) (length rs) (row_of e) (count_of e.count) (Ok tt)
-        add_put = put_at k (Used e) (row_of e) (count_of e.count) (put_free (contents rs) (row_of e) none' k at None (Some (holding_of e)) refl refl tt)
+        pub add_put : Put (look (held (contents rs))) (look (held (contents (set rs k (Some e))))) (length (rows_in (held (contents rs)))) (length rs) (row_of e) (count_of e.count) (Ok tt)
+        add_put = put_at k (Some e) (row_of e) (count_of e.count) (put_free (contents rs) (row_of e) none' k at None (Some (holding_of e)) refl refl tt)
 
   module _ (q : List Cell) where
     module _ (k : ℕ) (at : AtHit (contents rs) q k) where
-      pub drop_apart : Apart (held (contents (set rs k Free)))
-      drop_apart = still_apart k Free (hit_apart (contents rs) q k at apart None None (λ t. absurd (both_ways false refl t)))
+      pub drop_apart : Apart (held (contents (set rs k None)))
+      drop_apart = still_apart k None (hit_apart (contents rs) q k at apart None None (λ t. absurd (both_ways false refl t)))
 
-      pub dropped : Dropped (look (held (contents rs))) (look (held (contents (set rs k Free)))) q true
+      pub dropped : Dropped (look (held (contents rs))) (look (held (contents (set rs k None)))) q true
       dropped =
-          drop_means (held (contents rs)) (held (contents (set rs k Free))) q true
-          (subst (λ ps. DropList (held (contents rs)) (held ps) q true) (sym (contents_set rs k Free))
+          drop_means (held (contents rs)) (held (contents (set rs k None))) q true
+          (subst (λ ps. DropList (held (contents rs)) (held ps) q true) (sym (contents_set rs k None))
           (drop_hit (contents rs) q k at apart None None (λ t. absurd (both_ways false refl t)) refl))
 
     pub not_dropped : NoHit (contents rs) q (length rs) → Dropped (look (held (contents rs))) (look (held (contents rs))) q false

@@ -1,4 +1,3 @@
-pub mod Laying
 mod Records
 mod Changes
 pub mod Writes

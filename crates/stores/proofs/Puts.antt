@@ -8,19 +8,20 @@ use Rattle.maps.specs.Maps.{In}
 use Rattle.terms.specs.declared.cell.Cell.{Cell}
 use Rattle.stores.specs.declared.entry.Entry.{Entry}
 use Rattle.stores.specs.declared.fault.StoreFault.{StoreFault}
-use Rattle.stores.specs.Rows.{same, same_true, same_self, decided}
+use Rattle.terms.specs.Equality.{cells_eq}
+use Rattle.terms.specs.Rows.{same_true, same_self, decided}
 use Rattle.stores.specs.Means.{count_of, row_of, Put, Dropped}
 use Rattle.stores.specs.Places.{Holding, row_in, rows_in, look, apart, Apart}
 use Rattle.stores.specs.Maps.{in_look, rows_length}
 use Rattle.stores.specs.Table.{holding_of}
 use Rattle.stores.proofs.Writes.{PutList, DropList}
 
-as_decided : (row q : List Cell) (v w : Option ℕ) → cond (same row q) v w ≡ ite (decided q row) v w
+as_decided : (row q : List Cell) (v w : Option ℕ) → cond (cells_eq row q) v w ≡ ite (decided q row) v w
 as_decided row q v w = by_cases (decided q row)
-    (λ e. cond-true (same row q) v w (ap (same row) e ∙ same_self row) ∙ sym (if_pos (decided q row) e v w))
-    (λ ne. cond-false (same row q) v w (different (same row q) refl ne) ∙ sym (if_neg (decided q row) ne v w))
+    (λ e. cond-true (cells_eq row q) v w (ap (cells_eq row) e ∙ same_self row) ∙ sym (if_pos (decided q row) e v w))
+    (λ ne. cond-false (cells_eq row q) v w (different (cells_eq row q) refl ne) ∙ sym (if_neg (decided q row) ne v w))
   where
-    different : (b : Bool) → same row q ≡ b → ¬ (q ≡ row) → b ≡ false
+    different : (b : Bool) → cells_eq row q ≡ b → ¬ (q ≡ row) → b ≡ false
     different true e ne = absurd (ne (sym (same_true row q e)))
     different false e ne = refl
 
@@ -53,12 +54,12 @@ nth_in (x ∷ es) (suc k) e z = inr (nth_in es k e z)
 
 nth_look : (es : List Holding) → Apart es → (k : ℕ) (e : Holding) → Some e ≡ slice_get es k → look es e.0 ≡ Some e.1
 nth_look [] a k e z = absurd (let z : ◌≡◌ {A = ℕ} 0 1 = cc in omega arith)
-nth_look (x ∷ es) a zero e z = let y : e ≡ x = cc in ap (λ w. look (x ∷ es) w.0) y ∙ cond-true (same x.0 x.0) _ _ (same_self x.0) ∙ ap (λ w. Some w.1) (sym y)
+nth_look (x ∷ es) a zero e z = let y : e ≡ x = cc in ap (λ w. look (x ∷ es) w.0) y ∙ cond-true (cells_eq x.0 x.0) _ _ (same_self x.0) ∙ ap (λ w. Some w.1) (sym y)
 nth_look (x ∷ es) a (suc k) e z =
     let p = and_parts (not (is_some (look es x.0))) (apart es) a in
-    cond-false (same x.0 e.0) _ _ (apart_from (same x.0 e.0) refl p.0) ∙ nth_look es p.1 k e z
+    cond-false (cells_eq x.0 e.0) _ _ (apart_from (cells_eq x.0 e.0) refl p.0) ∙ nth_look es p.1 k e z
   where
-    apart_from : (b : Bool) → same x.0 e.0 ≡ b → not (is_some (look es x.0)) ≡ true → b ≡ false
+    apart_from : (b : Bool) → cells_eq x.0 e.0 ≡ b → not (is_some (look es x.0)) ≡ true → b ≡ false
     apart_from true t n =
         let y = in_look es e.0 (nth_in es k e z) in
         absurd (both_ways (is_some (look es x.0)) (not-true _ n) (ap (λ w. is_some (look es w)) (same_true x.0 e.0 t) ∙ ap is_some y.1))

@@ -5,9 +5,9 @@ use Rattle.std.proofs.lemmas.List.Sums.{count_by_more_yes, count_by_more_no}
 use Rattle.std.proofs.lemmas.Bool.{cases_eq, cases_Bool, both_ways}
 use Rattle.terms.specs.declared.cell.Cell.{Cell}
 use Rattle.stores.specs.declared.entry.Entry.{Entry}
-use Rattle.stores.specs.declared.entry.Record.{Record}
-use Rattle.stores.specs.declared.entry.Record.TheVariants.{Free, Used}
-use Rattle.stores.specs.Rows.{same, same_true, same_self}
+use Rattle.stores.specs.Table.{Record}
+use Rattle.terms.specs.Equality.{cells_eq}
+use Rattle.terms.specs.Rows.{same_true, same_self}
 use Rattle.stores.specs.Means.{row_of}
 use Rattle.stores.specs.Places.{Place, taken, hits, held, NoHit, AtHit, AtFree}
 use Rattle.stores.specs.Table.{place_of, contents}
@@ -53,17 +53,17 @@ held_none [] = refl
 held_none (None ∷ ps) = held_none ps
 held_none (Some h ∷ ps) = ap (λ t. h ∷ t) (held_none ps)
 
-pub freed_more : (rs : List Record) (i : ℕ) → i < length rs → held (take i (contents rs)) ≡ [] → held (take (i + 1) (contents (set rs i Free))) ≡ []
+pub freed_more : (rs : List Record) (i : ℕ) → i < length rs → held (take i (contents rs)) ≡ [] → held (take (i + 1) (contents (set rs i None))) ≡ []
 freed_more rs i h e =
-    ap (λ ps. held (take (i + 1) ps)) (contents_set rs i Free) ∙ ap held (take_more_set (contents rs) i None (omega (arith, contents_length rs))) ∙ held_none (take i (contents rs)) ∙ e
+    ap (λ ps. held (take (i + 1) ps)) (contents_set rs i None) ∙ ap held (take_more_set (contents rs) i None (omega (arith, contents_length rs))) ∙ held_none (take i (contents rs)) ∙ e
 
 pub freed_all : (rs : List Record) (i : ℕ) → length rs ≤ i → held (take i (contents rs)) ≡ [] → held (contents rs) ≡ []
 freed_all rs i h e = ap held (sym (take_all i (contents rs) (omega (arith, contents_length rs)))) ∙ e
 
 -- the test of a record that is in use
-pub hits_same : (r : Record) (e : Entry) (q : List Cell) → r ≡ Used e → row_of e ≡ q → hits (place_of r) q ≡ true
-hits_same r e q u s = ap (λ x. hits (place_of x) q) u ∙ ap (λ x. same x q) s ∙ same_self q
+pub hits_same : (r : Record) (e : Entry) (q : List Cell) → r ≡ Some e → row_of e ≡ q → hits (place_of r) q ≡ true
+hits_same r e q u s = ap (λ x. hits (place_of x) q) u ∙ ap (λ x. cells_eq x q) s ∙ same_self q
 
-pub hits_other : (r : Record) (e : Entry) (q : List Cell) (b : Bool) → r ≡ Used e → Decides b (row_of e ≡ q) → b ≡ false → hits (place_of r) q ≡ false
+pub hits_other : (r : Record) (e : Entry) (q : List Cell) (b : Bool) → r ≡ Some e → Decides b (row_of e ≡ q) → b ≡ false → hits (place_of r) q ≡ false
 hits_other r e q b u d f =
-    ap (λ x. hits (place_of x) q) u ∙ ⊎_elim (λ t. absurd (both_ways b f (d.1 (same_true (row_of e) q t)))) (λ n. n) (cases_Bool (same (row_of e) q))
+    ap (λ x. hits (place_of x) q) u ∙ ⊎_elim (λ t. absurd (both_ways b f (d.1 (same_true (row_of e) q t)))) (λ n. n) (cases_Bool (cells_eq (row_of e) q))

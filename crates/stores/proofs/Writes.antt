@@ -7,24 +7,25 @@ use Rattle.std.proofs.lemmas.Bool.{and_parts, and_from, not-true, cond-true, con
 use Rattle.terms.specs.declared.cell.Cell.{Cell}
 use Rattle.stores.specs.declared.fault.StoreFault.{StoreFault}
 use Rattle.stores.specs.declared.fault.StoreFault.TheVariants.{Full}
-use Rattle.stores.specs.Rows.{same, same_true, same_self}
+use Rattle.terms.specs.Equality.{cells_eq}
+use Rattle.terms.specs.Rows.{same_true, same_self}
 use Rattle.stores.specs.Places.{Holding, Place, row_at, count_at, held, hits, taken, NoHit, AtHit, AtFree, look, Apart}
 use Rattle.stores.specs.Maps.{held_length}
 
 -- A put and a drop over what is held, by the test of equality.
 abbrev pub PutList : List Holding → List Holding → ℕ → List Cell → ℕ → Result (Unit {0}) StoreFault → Type 0
 PutList es fs places row count (Ok u) =
-    (is_some (look es row) ≡ false → length es < places) × ((q : List Cell) → look fs q ≡ cond (same row q) (Some count) (look es q))
+    (is_some (look es row) ≡ false → length es < places) × ((q : List Cell) → look fs q ≡ cond (cells_eq row q) (Some count) (look es q))
 PutList es fs places row count (Err f) = (f ≡ Full) × (is_some (look es row) ≡ false) × (length es ≡ places) × (fs ≡ es)
 
 abbrev pub DropList : List Holding → List Holding → List Cell → Bool → Type 0
-DropList es fs row r = (r ≡ is_some (look es row)) × ((q : List Cell) → look fs q ≡ cond (same row q) None (look es q))
+DropList es fs row r = (r ≡ is_some (look es row)) × ((q : List Cell) → look fs q ≡ cond (cells_eq row q) None (look es q))
 
 -- the count that a table has for a row
 abbrev find : List Place → List Cell → Option ℕ
 find rs p = look (held rs) p
 
-at_used : (b : Bool) (row : List Cell) (n : ℕ) (es : List Holding) (p : List Cell) → look (cond b ((row, n) ∷ es) es) p ≡ cond (b && same row p) (Some n) (look es p)
+at_used : (b : Bool) (row : List Cell) (n : ℕ) (es : List Holding) (p : List Cell) → look (cond b ((row, n) ∷ es) es) p ≡ cond (b && cells_eq row p) (Some n) (look es p)
 at_used true row n es p = refl
 at_used false row n es p = refl
 
@@ -85,7 +86,7 @@ made_used true row n es f h = and_from _ _ (ap (λ o. not (is_some o)) (f refl))
 made_used false row n es f h = h
 
 hits_row : (r : Place) (q : List Cell) → hits r q ≡ true → (taken r ≡ true) × (row_at r ≡ q)
-hits_row r q e = let p = and_parts (taken r) (same (row_at r) q) e in (p.0, same_true _ _ p.1)
+hits_row r q e = let p = and_parts (taken r) (cells_eq (row_at r) q) e in (p.0, same_true _ _ p.1)
 
 only_from_apart : (rs : List Place) (q : List Cell) (k : ℕ) (d : Place) → k < length rs → Apart (held rs) → hits (get_or rs k d) q ≡ true → Only rs q k
 only_from_apart [] q k d h a e = tt
@@ -110,26 +111,26 @@ there [] k n q h o = absurd (omega arith)
 there (r ∷ rs) zero n q h o = find_cons n rs q ∙ ap (cond (hits n q) (Some (count_at n))) o
 there (r ∷ rs) (suc k) n q h o = find_cons r (set rs k n) q ∙ cond-false (hits r q) _ _ o.0 ∙ there rs k n q (omega arith) o.1
 
-other_row : (b : Bool) (row q p : List Cell) → (b ≡ true → row ≡ q) → same q p ≡ false → (b && same row p) ≡ false
-other_row true row q p f e = ap (λ x. same x p) (f refl) ∙ e
+other_row : (b : Bool) (row q p : List Cell) → (b ≡ true → row ≡ q) → cells_eq q p ≡ false → (b && cells_eq row p) ≡ false
+other_row true row q p f e = ap (λ x. cells_eq x p) (f refl) ∙ e
 other_row false row q p f e = refl
 
 module _ (rs : List Place) (k : ℕ) (n : Place) (q : List Cell) (h : k < length rs) (o : Only rs q k)
     (new : taken n ≡ true → row_at n ≡ q) (old : (d : Place) → taken (get_or rs k d) ≡ true → row_at (get_or rs k d) ≡ q) where
-  go : (p : List Cell) (b : Bool) → same q p ≡ b → find (set rs k n) p ≡ cond b (cond (hits n q) (Some (count_at n)) None) (find rs p)
+  go : (p : List Cell) (b : Bool) → cells_eq q p ≡ b → find (set rs k n) p ≡ cond b (cond (hits n q) (Some (count_at n)) None) (find rs p)
   go p true e = subst (λ (x : List Cell). find (set rs k n) x ≡ cond (hits n q) (Some (count_at n)) None) (same_true q p e) (there rs k n q h o)
   go p false e = elsewhere rs k n p (other_row (taken n) (row_at n) q p new e) (λ d. other_row (taken (get_or rs k d)) (row_at (get_or rs k d)) q p (old d) e)
 
-  set_find : (p : List Cell) → find (set rs k n) p ≡ cond (same q p) (cond (hits n q) (Some (count_at n)) None) (find rs p)
-  set_find p = go p (same q p) refl
+  set_find : (p : List Cell) → find (set rs k n) p ≡ cond (cells_eq q p) (cond (hits n q) (Some (count_at n)) None) (find rs p)
+  set_find p = go p (cells_eq q p) refl
 
-not_row : (r : Place) (q : List Cell) → hits r q ≡ false → taken r ≡ true → same q (row_at r) ≡ false
+not_row : (r : Place) (q : List Cell) → hits r q ≡ false → taken r ≡ true → cells_eq q (row_at r) ≡ false
 not_row r q e u =
     ⊎_elim
     (λ t. let k = same_true q (row_at r) t in
-    absurd (both_ways (hits r q) e (and_from _ _ u (ap (same (row_at r)) k ∙ same_self (row_at r)))))
+    absurd (both_ways (hits r q) e (and_from _ _ u (ap (cells_eq (row_at r)) k ∙ same_self (row_at r)))))
     (λ f. f)
-    (cases_Bool (same q (row_at r)))
+    (cases_Bool (cells_eq q (row_at r)))
 
 set_apart : (rs : List Place) (k : ℕ) (n : Place) (q : List Cell) → k < length rs → Only rs q k → (taken n ≡ true → row_at n ≡ q) → Apart (held rs) → Apart (held (set rs k n))
 set_apart [] k n q h o new a = a
@@ -155,30 +156,30 @@ module _ (rs : List Place) (q : List Cell) (k : ℕ) (at : AtHit rs q k) (a : Ap
     pub hit_apart : Apart (held (set rs k n))
     hit_apart = set_apart rs k n q at.within only_hit new a
 
-    hit_set : (p : List Cell) → find (set rs k n) p ≡ cond (same q p) (cond (hits n q) (Some (count_at n)) None) (find rs p)
+    hit_set : (p : List Cell) → find (set rs k n) p ≡ cond (cells_eq q p) (cond (hits n q) (Some (count_at n)) None) (find rs p)
     hit_set = set_find rs k n q at.within only_hit new old_row
 
     pub put_hit : taken n ≡ true → row_at n ≡ q → (u : Unit {0}) → PutList (held rs) (held (set rs k n)) (length rs) q (count_at n) (Ok u)
     put_hit t row u =
-        let hn : hits n q ≡ true = and_from (taken n) _ t (ap (λ x. same x q) row ∙ same_self q) in
+        let hn : hits n q ≡ true = and_from (taken n) _ t (ap (λ x. cells_eq x q) row ∙ same_self q) in
         let some : is_some (find rs q) ≡ true = ap is_some hit_find in
-        ((λ e. absurd (both_ways _ e some)), λ p. hit_set p ∙ ap (λ w. cond (same q p) w (find rs p)) (cond-true (hits n q) _ _ hn))
+        ((λ e. absurd (both_ways _ e some)), λ p. hit_set p ∙ ap (λ w. cond (cells_eq q p) w (find rs p)) (cond-true (hits n q) _ _ hn))
 
     pub drop_hit : taken n ≡ false → DropList (held rs) (held (set rs k n)) q true
     drop_hit u =
-        let hn : hits n q ≡ false = ap (λ b. b && same (row_at n) q) u in
-        (sym (ap is_some hit_find), λ p. hit_set p ∙ ap (λ w. cond (same q p) w (find rs p)) (cond-false (hits n q) _ _ hn))
+        let hn : hits n q ≡ false = ap (λ b. b && cells_eq (row_at n) q) u in
+        (sym (ap is_some hit_find), λ p. hit_set p ∙ ap (λ w. cond (cells_eq q p) w (find rs p)) (cond-false (hits n q) _ _ hn))
 
 module _ (rs : List Place) (q : List Cell) (none : NoHit rs q (length rs)) where
   absent : is_some (find rs q) ≡ false
   absent = ap is_some (none_find rs q none)
 
-  same_none : (p : List Cell) (b : Bool) → same q p ≡ b → find rs p ≡ cond b None (find rs p)
+  same_none : (p : List Cell) (b : Bool) → cells_eq q p ≡ b → find rs p ≡ cond b None (find rs p)
   same_none p true e = sym (ap (find rs) (same_true q p e)) ∙ none_find rs q none
   same_none p false e = refl
 
   pub drop_none : DropList (held rs) (held rs) q false
-  drop_none = (sym absent, λ p. same_none p (same q p) refl)
+  drop_none = (sym absent, λ p. same_none p (cells_eq q p) refl)
 
   pub put_full : count_by taken rs ≡ length rs → (c : ℕ) → PutList (held rs) (held rs) (length rs) q c (Err Full)
   put_full e c = (refl, absent, held_length rs ∙ e, refl)
@@ -199,9 +200,9 @@ module _ (rs : List Place) (q : List Cell) (none : NoHit rs q (length rs)) where
 
     pub put_free : (f : Unit {0}) → PutList (held rs) (held (set rs k n)) (length rs) q (count_at n) (Ok f)
     put_free f =
-        let hn : hits n q ≡ true = and_from (taken n) _ u (ap (λ x. same x q) row ∙ same_self q) in
+        let hn : hits n q ≡ true = and_from (taken n) _ u (ap (λ x. cells_eq x q) row ∙ same_self q) in
         let s = set_find rs k n q at.within only_free (λ _. row) (λ e w. absurd (both_ways _ (at.here e) w)) in
-        ((λ _. free_room), λ p. s p ∙ ap (λ w. cond (same q p) w (find rs p)) (cond-true (hits n q) _ _ hn))
+        ((λ _. free_room), λ p. s p ∙ ap (λ w. cond (cells_eq q p) w (find rs p)) (cond-true (hits n q) _ _ hn))
 
 -- row number n from place i on
 module _ (rs : List Place) (i : ℕ) (r : Place) (h : i < length rs) (e : r ≡ get_or rs i r) where

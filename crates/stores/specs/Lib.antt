@@ -1,5 +1,3 @@
-pub mod Short
-pub mod Rows
 pub mod Faults
 pub mod Means
 pub mod Places

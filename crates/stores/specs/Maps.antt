@@ -6,7 +6,8 @@ use Rattle.std.proofs.lemmas.List.Sums.{sum_by-cons, count_by-le-length}
 use Rattle.std.proofs.lemmas.Bool.{cond-true, and_parts, not-true, both_ways}
 use Rattle.maps.specs.Maps.{In, Once, Listed}
 use Rattle.terms.specs.declared.cell.Cell.{Cell}
-use Rattle.stores.specs.Rows.{same, same_true, same_self}
+use Rattle.terms.specs.Equality.{cells_eq}
+use Rattle.terms.specs.Rows.{same_true, same_self}
 use Rattle.stores.specs.Places.{Holding, Place, taken, row_at, count_at, held, rows_in, look, apart, Apart}
 
 none_some : (k : ℕ) → ◌≡◌ {A = Option ℕ} None (Some k) → ⊥
@@ -18,8 +19,8 @@ some_some j k e = cc
 -- the rows are those that have a count
 pub in_look : (hs : List Holding) (q : List Cell) → In q (rows_in hs) → (k : ℕ) × (look hs q ≡ Some k)
 in_look [] q i = absurd i
-in_look (h ∷ hs) q (inl z) = (h.1, cond-true (same h.0 q) (Some h.1) (look hs q) (ap (same h.0) z ∙ same_self h.0))
-in_look (h ∷ hs) q (inr i) = go (same h.0 q) (in_look hs q i)
+in_look (h ∷ hs) q (inl z) = (h.1, cond-true (cells_eq h.0 q) (Some h.1) (look hs q) (ap (cells_eq h.0) z ∙ same_self h.0))
+in_look (h ∷ hs) q (inr i) = go (cells_eq h.0 q) (in_look hs q i)
   where
     go : (b : Bool) → ((k : ℕ) × (look hs q ≡ Some k)) → (k : ℕ) × (cond b (Some h.1) (look hs q) ≡ Some k)
     go true y = (h.1, refl)
@@ -27,9 +28,9 @@ in_look (h ∷ hs) q (inr i) = go (same h.0 q) (in_look hs q i)
 
 pub look_in : (hs : List Holding) (q : List Cell) (k : ℕ) → look hs q ≡ Some k → In q (rows_in hs)
 look_in [] q k z = absurd (none_some k z)
-look_in (h ∷ hs) q k z = go (same h.0 q) refl z (look_in hs q k)
+look_in (h ∷ hs) q k z = go (cells_eq h.0 q) refl z (look_in hs q k)
   where
-    go : (b : Bool) → same h.0 q ≡ b → cond b (Some h.1) (look hs q) ≡ Some k → (look hs q ≡ Some k → In q (rows_in hs)) → In q (rows_in (h ∷ hs))
+    go : (b : Bool) → cells_eq h.0 q ≡ b → cond b (Some h.1) (look hs q) ≡ Some k → (look hs q ≡ Some k → In q (rows_in hs)) → In q (rows_in (h ∷ hs))
     go true t z ih = inl (sym (same_true h.0 q t))
     go false t z ih = inr (ih z)
 
@@ -68,5 +69,5 @@ look_small top (p ∷ ps) a q n e = go (taken p) e (look_small top ps a.1 q n)
     here false z ih = ih z
 
     go : (b : Bool) → look (cond b ((row_at p, count_at p) ∷ held ps) (held ps)) q ≡ Some n → (look (held ps) q ≡ Some n → n ≤ top) → n ≤ top
-    go true z ih = here (same (row_at p) q) z ih
+    go true z ih = here (cells_eq (row_at p) q) z ih
     go false z ih = ih z

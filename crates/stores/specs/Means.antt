@@ -6,7 +6,8 @@ use Rattle.stores.specs.declared.count.Count.{Count}
 use Rattle.stores.specs.declared.entry.Entry.{Entry}
 use Rattle.stores.specs.declared.fault.StoreFault.{StoreFault}
 use Rattle.stores.specs.declared.fault.StoreFault.TheVariants.{Full}
-use Rattle.stores.specs.Rows.{cells_of, decided}
+use Rattle.terms.specs.Fitting.{cells_of}
+use Rattle.terms.specs.Rows.{decided}
 
 abbrev pub count_of : Count → ℕ
 count_of c = c.value

@@ -1,7 +1,7 @@
 -- A store by its places: each is free, or holds a row with its count.
 use Rattle.std.specs.Prelude.{◌≡◌, ℕ, ◌<◌, Bool, true, false, cond, not, ◌&&◌, List, [], ◌∷◌, map, length, is_some, Some, None, Option, slice_index_or}
 use Rattle.terms.specs.declared.cell.Cell.{Cell}
-use Rattle.stores.specs.Rows.{same}
+use Rattle.terms.specs.Equality.{cells_eq}
 
 -- a row with its count
 abbrev pub Holding : Type 0
@@ -37,7 +37,7 @@ rows_in hs = map row_in hs
 -- the count of a row, or absent
 abbrev pub look : List Holding → List Cell → Option ℕ
 look [] q = None
-look (h ∷ hs) q = cond (same h.0 q) (Some h.1) (look hs q)
+look (h ∷ hs) q = cond (cells_eq h.0 q) (Some h.1) (look hs q)
 
 -- no row stands twice
 abbrev pub apart : List Holding → Bool
@@ -49,7 +49,7 @@ Apart hs = apart hs ≡ true
 
 -- the place holds the row
 abbrev pub hits : Place → List Cell → Bool
-hits p q = taken p && same (row_at p) q
+hits p q = taken p && cells_eq (row_at p) q
 
 -- none of the first n places holds the row; place k does; place k is free
 abbrev pub NoHit : List Place → List Cell → ℕ → Type 0

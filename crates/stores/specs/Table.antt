@@ -1,11 +1,9 @@
 -- What the records of a table hold.
-use Rattle.std.specs.Prelude.{◌≡◌, ◌≤◌, List, [], ◌∷◌, map, length, Some, None, Ok, Err, Result}
+use Rattle.std.specs.Prelude.{◌≡◌, ◌≤◌, List, [], ◌∷◌, map, length, Some, None, Ok, Err, Option, Result}
 use Rattle.std.proofs.Common.{arith}
 use Rattle.std.specs.List.{AllByRecursion}
 use Rattle.std.proofs.lemmas.List.{length-map}
 use Rattle.stores.specs.declared.entry.Entry.{Entry}
-use Rattle.stores.specs.declared.entry.Record.{Record}
-use Rattle.stores.specs.declared.entry.Record.TheVariants.{Free, Used}
 use Rattle.stores.specs.declared.fault.StoreFault.{StoreFault}
 use Rattle.stores.specs.declared.fault.StoreFault.TheVariants.{Length}
 use Rattle.stores.specs.Means.{Allowed, count_of, row_of}
@@ -15,9 +13,13 @@ use Rattle.stores.specs.Maps.{held_room}
 abbrev pub holding_of : Entry → Holding
 holding_of e = (row_of e, count_of e.count)
 
+-- a record of the table: free, or a row with its count
+abbrev pub Record : Type 0
+Record = Option Entry
+
 abbrev pub place_of : Record → Place
-place_of Free = None
-place_of (Used e) = Some (holding_of e)
+place_of None = None
+place_of (Some e) = Some (holding_of e)
 
 abbrev pub contents : List Record → List Place
 contents rs = map place_of rs
@@ -25,8 +27,8 @@ contents rs = map place_of rs
 -- every count is at most 999,999
 pub contents_small : (rs : List Record) → AllByRecursion (λ p. count_at p ≤ 999999) (contents rs)
 contents_small [] = tt
-contents_small (Free ∷ rs) = (omega arith, contents_small rs)
-contents_small (Used e ∷ rs) = (e.count.few, contents_small rs)
+contents_small (None ∷ rs) = (omega arith, contents_small rs)
+contents_small (Some e ∷ rs) = (e.count.few, contents_small rs)
 
 -- there are no more rows than records
 pub contents_room : (rs : List Record) → length (rows_in (held (contents rs))) ≤ length rs

@@ -4,8 +4,6 @@
 pub mod count;
 pub mod entry;
 pub mod fault;
-pub mod key;
-pub mod keys;
 pub mod length;
 mod places;
 pub mod store;

@@ -4,13 +4,13 @@ ghost use Rattle.std.specs.Option.{option_map};
 ghost use Rattle.std.specs.List.{slice_get};
 ghost use Rattle.maps.specs.Maps.{Map, Listed};
 ghost use Rattle.terms.specs.declared.cell.Cell.{Cell};
-ghost use Rattle.stores.specs.Rows.{cells_of};
+ghost use Rattle.terms.specs.Fitting.{cells_of};
 ghost use Rattle.stores.specs.Means.{count_of, row_of, Put, Dropped};
 
 use crate::count::Count;
 use crate::entry::{Entry, Size};
 use crate::fault::StoreFault;
-use crate::key::Key;
+use terms::row::Row;
 
 // A map from rows to counts with a fixed number of places.
 pub trait Store {
@@ -34,16 +34,16 @@ pub trait Store {
     ghost room: { (s : Self) → length (rows s) ≤ places s };
 
     // The count of a row, or absent.
-    fn find(&self, key: &Key) -> Option<Count>
+    fn find(&self, key: &Row) -> Option<Count>
         ensures { option_map count_of result ≡ means self.now (cells_of key.now) };
 
     // Replaces a count or adds a row; refused exactly for a new row when every place is taken.
-    fn put(&mut self, key: &Key, count: Count) -> Result<(), StoreFault>
+    fn put(&mut self, key: &Row, count: Count) -> Result<(), StoreFault>
         ensures put { Put (means self.old) (means self.new) (length (rows self.old)) (places self.old) (cells_of key.now) (count_of count) result }
         ensures places { places self.new ≡ places self.old };
 
     // Drops a row, and says if it was there.
-    fn remove(&mut self, key: &Key) -> bool
+    fn remove(&mut self, key: &Row) -> bool
         ensures dropped { Dropped (means self.old) (means self.new) (cells_of key.now) result }
         ensures places { places self.new ≡ places self.old };
 

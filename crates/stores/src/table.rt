@@ -2,7 +2,7 @@
 ghost use Rattle.std.specs.Prelude.{◌≡◌, ◌<◌, ◌≤◌, [], length, count_by, MatchOption, MatchResult};
 ghost use Rattle.stores.specs.declared.fault.StoreFault.TheVariants.{Length};
 ghost use Rattle.stores.specs.Means.{Allowed};
-ghost use Rattle.stores.specs.Rows.{cells_of};
+ghost use Rattle.terms.specs.Fitting.{cells_of};
 ghost use Rattle.stores.specs.Places.{held, rows_in, look, taken, Apart, NoHit, AtHit, AtFree};
 ghost use Rattle.stores.specs.Maps.{listed_of, look_small};
 ghost use Rattle.stores.specs.Table.{contents, contents_small, contents_room, Cleared};
@@ -10,10 +10,10 @@ ghost use Rattle.stores.specs.Table.{contents, contents_small, contents_room, Cl
 use crate::count::Count;
 use crate::entry::{Entry, Record, Size};
 use crate::fault::StoreFault;
-use crate::key::Key;
 use crate::length::check_places;
 use crate::places::{count_in, free_all, free_place, place_of, used_places, used_row};
 use crate::store::Store;
+use terms::row::Row;
 
 // A store in the caller's records; what a free record holds is nobody's.
 #[derive(Drop)]
@@ -44,20 +44,6 @@ impl<'a> Table<'a> {
     }
 }
 
-impl Table<'_> {
-    fn place(&self, key: &Key) -> Option<usize>
-        ensures { MatchOption result (NoHit (contents self.now.records.now) (cells_of key.now) (length self.now.records.now)) (λ k. (k < length self.now.records.now) × AtHit (contents self.now.records.now) (cells_of key.now) k) }
-    {
-        place_of(self.records, key)
-    }
-
-    fn free(&self) -> Option<usize>
-        ensures { MatchOption result (count_by taken (contents self.now.records.now) ≡ length self.now.records.now) (λ k. (k < length self.now.records.now) × AtFree (contents self.now.records.now) k) }
-    {
-        free_place(self.records)
-    }
-}
-
 impl<'a> Store for Table<'a> {
     ghost means = { λ t. look (held (contents t.records.now)) };
 
@@ -75,31 +61,24 @@ impl<'a> Store for Table<'a> {
 
     ghost room = { λ t. contents_room t.records.now };
 
-    fn find(&self, key: &Key) -> Option<Count> {
+    fn find(&self, key: &Row) -> Option<Count> {
         count_in(self.records, key)
     }
 
-    fn put(&mut self, key: &Key, count: Count) -> Result<(), StoreFault> {
+    fn put(&mut self, key: &Row, count: Count) -> Result<(), StoreFault> {
         let entry = Entry { key: *key, count };
-        match self.place(key) {
-            Some(k) => {
-                self.records[k] = Record::Used(entry);
-                Ok(())
-            }
-            None => match self.free() {
-                Some(k) => {
-                    self.records[k] = Record::Used(entry);
-                    Ok(())
-                }
-                None => Err(StoreFault::Full),
-            },
-        }
+        let place = place_of(self.records, key).or_else(|| free_place(self.records));
+        let Some(k) = place else {
+            return Err(StoreFault::Full);
+        };
+        self.records[k] = Some(entry);
+        Ok(())
     }
 
-    fn remove(&mut self, key: &Key) -> bool {
-        match self.place(key) {
+    fn remove(&mut self, key: &Row) -> bool {
+        match place_of(self.records, key) {
             Some(k) => {
-                self.records[k] = Record::Free;
+                self.records[k] = None;
                 true
             }
             None => false,

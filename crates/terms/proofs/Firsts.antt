@@ -1,6 +1,6 @@
 -- The first arity and the first constraint that are not allowed.
-use Rattle.std.proofs.Common.{◌≡◌, ℕ, zero, suc, ◌+◌, ◌-◌, ◌<◌, ◌≤◌, ◌⊎◌, List, [], ◌∷◌, ◌++◌, length, get_or, take, drop, set, replicate, sym, refl, ap, ◌∙◌, subst, inl, inr, arith}
-use Rattle.std.proofs.lemmas.List.{take_more, take_all, take_at, drop_more, drop-replicate, length-take-le, get_or_default, set_at, append_assoc, get_or-take}
+use Rattle.std.proofs.Common.{◌≡◌, ℕ, zero, suc, ◌+◌, ◌<◌, ◌≤◌, ◌⊎◌, List, [], ◌∷◌, length, get_or, take, sym, refl, ap, ◌∙◌, subst, inl, inr, arith}
+use Rattle.std.proofs.lemmas.List.{length-take-le, get_or_default, get_or-take}
 use Rattle.std.proofs.ByRecursion.{All-more}
 use Rattle.refusals.specs.Places.{FirstFault}
 use Rattle.refusals.proofs.Places.{agrees_at, fault_at}

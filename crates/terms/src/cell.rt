@@ -5,6 +5,8 @@ ghost use Rattle.std.proofs.Common.{rules};
 ghost use Rattle.std.specs.Cmp as Keys;
 ghost use Rattle.terms.specs.Equality.{cell_eq};
 
+use kinds::common::Value;
+
 // A letter and a number: S names a symbol, V a variable, and any other letter a value, whose number is its code.
 #[derive(Clone, Copy, Debug)]
 pub struct Cell {
@@ -12,7 +14,7 @@ pub struct Cell {
     pub number: u32,
 }
 
-// Written out, so that a caller knows that it decides equality.
+// Written out: a derive does not promise that it decides equality, as this does.
 impl PartialEq for Cell {
     ghost eq = { cell_eq };
 
@@ -28,6 +30,18 @@ impl PartialEq for Cell {
 
 impl Eq for Cell {
     ghost laws = { Prim.search (comparing, rules) };
+}
+
+// A value as the cell that shows it.
+impl From<Value> for Cell {
+    ghost from_gives = { λ v c. c ≡ record { letter = v.letter; number = v.code } };
+
+    fn from(value: Value) -> Cell {
+        Cell {
+            letter: value.letter,
+            number: value.code,
+        }
+    }
 }
 
 // What stands where there is no cell.

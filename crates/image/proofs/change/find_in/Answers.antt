@@ -2,7 +2,7 @@ use Rattle.std.proofs.Common.{◌≡◌, ℕ, ◌<◌, ◌≤◌, Some, None, Op
 use Rattle.std.specs.Option.{option_map}
 use Rattle.stores.specs.declared.count.Count.{Count}
 use Rattle.stores.specs.Means.{count_of}
-use Rattle.stores.specs.Rows.{cells_of}
+use Rattle.terms.specs.Fitting.{cells_of}
 use Rattle.stores.proofs.Writes.{none_find}
 use Rattle.image.specs.Meaning.{entries}
 use Rattle.image.proofs.Changing.{counted, counted_none, counted_some, tail_part}

@@ -1,6 +1,6 @@
 use Rattle.std.proofs.Common.{◌+◌, ◌-◌, ◌*◌, Some, arith}
-use Rattle.stores.specs.Rows.{cells_of}
-use Rattle.stores.proofs.Laying.{storable_key}
+use Rattle.terms.specs.Fitting.{cells_of}
+use Rattle.terms.proofs.Storing.{storable_row}
 use Rattle.image.proofs.Changing.{put_at, put_new, full, line_written}
 use Rattle.image.proofs.change.put_in.Goals as goal
 
@@ -10,7 +10,7 @@ returns-in-Some c =
     let k = c.in-Some.k in
     let q = cells_of c.args.key.now in
     let n = c.args.count.value in
-    let fit = storable_key c.args.key.now in
+    let fit = storable_row c.args.key.now in
     let at = c.in-Some.ensures in
     put_at xs _ c.requires q k fit n c.args.count.few
     (line_written k ((k * 128 + 128) - k * 128) xs c.encode.new.line (Some (q, n)) (omega arith) at.within (fit, c.args.count.few) c.encode.ensures) at
@@ -21,7 +21,7 @@ returns-in-Some-first_blank c =
     let k = c.in-Some-first_blank.k in
     let q = cells_of c.args.key.now in
     let n = c.args.count.value in
-    let fit = storable_key c.args.key.now in
+    let fit = storable_row c.args.key.now in
     let first = c.in-Some-first_blank.ensures in
     put_new xs _ c.requires q k fit n c.args.count.few
     (line_written k ((k * 128 + 128) - k * 128) xs c.encode-in-Some-first_blank.new.line (Some (q, n)) (omega arith) first.within (fit, c.args.count.few) c.encode-in-Some-first_blank.ensures)

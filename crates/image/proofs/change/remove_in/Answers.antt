@@ -1,5 +1,5 @@
 use Rattle.std.proofs.Common.{◌+◌, ◌-◌, ◌*◌, None, arith}
-use Rattle.stores.specs.Rows.{cells_of}
+use Rattle.terms.specs.Fitting.{cells_of}
 use Rattle.image.proofs.Changing.{drop_at_row, line_written, kept}
 use Rattle.image.proofs.change.remove_in.Goals as goal
 

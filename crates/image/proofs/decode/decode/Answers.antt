@@ -3,7 +3,7 @@ use Rattle.std.proofs.lemmas.Bool.{both_ways}
 use Rattle.terms.specs.declared.cell.Cell.{Cell}
 use Rattle.terms.specs.Proper.{RowCells}
 use Rattle.columns.specs.Columns.{blank, columns}
-use Rattle.stores.specs.Rows.{cells_of}
+use Rattle.terms.specs.Fitting.{cells_of}
 use Rattle.image.specs.Lines.{Scanned, shown}
 use Rattle.image.proofs.Decoding.{tail_seven}
 use Rattle.image.proofs.Decided.{row_storable, key_some, mark_first, tail_first, end_first, good_first, cell_refused, mark_row, tail_none, tail_large, end_row, good_row}

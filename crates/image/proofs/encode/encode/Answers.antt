@@ -1,5 +1,6 @@
 use Rattle.std.proofs.Common.{◌≡◌, ◌+◌, ◌-◌, ◌*◌, length, take, ap, ◌∙◌, subst, arith}
-use Rattle.stores.specs.Rows.{cells_of, Storable}
+use Rattle.terms.specs.Fitting.{cells_of}
+use Rattle.terms.specs.Rows.{Storable}
 use Rattle.image.proofs.Slots.{cell_slot, blank_slot, count_tail, slots_none}
 use Rattle.image.proofs.encode.encode.Goals as goal
 use Rattle.image.proofs.encode.encode.Goals.{then-j-cells, else-j-cells}

@@ -1,5 +1,5 @@
 use Rattle.std.proofs.Common.{◌≡◌, ◌*◌, take}
-use Rattle.stores.specs.Rows.{cells_of}
+use Rattle.terms.specs.Fitting.{cells_of}
 use Rattle.image.specs.Lines.{slots}
 use Rattle.image.proofs.encode.encode.Given as goal
 

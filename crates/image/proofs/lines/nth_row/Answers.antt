@@ -1,7 +1,7 @@
 use Rattle.std.proofs.Common.{◌+◌, ◌-◌, ◌*◌, length, sym, ap, ◌∙◌, subst, arith}
 use Rattle.std.specs.List.{slice_get}
 use Rattle.std.proofs.lemmas.List.{at_drop_all}
-use Rattle.stores.specs.Rows.{Storable}
+use Rattle.terms.specs.Rows.{Storable}
 use Rattle.stores.specs.Table.{holding_of}
 use Rattle.stores.specs.Places.{held, taken}
 use Rattle.image.specs.Meaning.{line, meaning, entries, Shows}

@@ -1,7 +1,8 @@
 use Rattle.std.proofs.Common.{◌≡◌, ℕ, List, take, drop, sym, ◌∙◌, arith}
 use Rattle.terms.specs.declared.cell.Cell.{Cell}
-use Rattle.stores.specs.declared.key.Key.{Key}
-use Rattle.stores.specs.Rows.{cells_of, Storable}
+use Rattle.terms.specs.declared.row.Row.{Row}
+use Rattle.terms.specs.Fitting.{cells_of}
+use Rattle.terms.specs.Rows.{Storable}
 use Rattle.image.specs.Lines.{Scanned}
 use Rattle.image.specs.Meaning.{meaning, Shows}
 use Rattle.image.proofs.Decided.{key_some}
@@ -9,7 +10,7 @@ use Rattle.image.proofs.Meanings.{scanned_cells, none_from, RowAndCount, row_and
 use Rattle.image.proofs.lines.read_line.Goals as goal
 
 -- the cells and the tail of a proper line that has a key
-has-row : (s : List ℕ) (cs ds : List Cell) (k : Key) → Shows Storable s → Scanned s ds → cs ≡ ds → cells_of k ≡ cs → RowAndCount (meaning s) cs (take 7 (drop 120 s))
+has-row : (s : List ℕ) (cs ds : List Cell) (k : Row) → Shows Storable s → Scanned s ds → cs ≡ ds → cells_of k ≡ cs → RowAndCount (meaning s) cs (take 7 (drop 120 s))
 has-row s cs ds k w scan e key =
     row_and_count (meaning s) cs (take 7 (drop 120 s)) w.good (scanned_cells s ds w scan ∙ sym e) (key_some k cs key) (fit_tail s w)
 

@@ -1,5 +1,5 @@
 use Rattle.std.proofs.Common.{sym, ◌∙◌, subst}
-use Rattle.stores.specs.Rows.{cells_of}
+use Rattle.terms.specs.Fitting.{cells_of}
 use Rattle.std.proofs.lemmas.List.{get_or_default}
 use Rattle.ledger.specs.Covering.{For}
 use Rattle.ledger.proofs.Entries.{pending_none, pending_at}

@@ -1,7 +1,7 @@
 use Rattle.std.proofs.Common.{false, refl}
 use Rattle.std.proofs.lemmas.Bool.{both_ways}
 use Rattle.rolls.proofs.Entries.{none_more, none_all}
-use Rattle.stores.specs.Rows.{cells_of}
+use Rattle.terms.specs.Fitting.{cells_of}
 use Rattle.ledger.specs.Covering.{For}
 use Rattle.ledger.proofs.changes.place_of.Goals as goal
 use Rattle.ledger.proofs.changes.place_of.Goals.{else-change-transaction-via-then-change-transaction+else-eq, else-change-transaction-via-else-change-transaction}

@@ -1,7 +1,7 @@
 use Rattle.std.proofs.Common.{◌≡◌, true, take}
 use Rattle.maps.specs.Maps.{Same}
 use Rattle.serial.specs.Entering.{entered}
-use Rattle.stores.specs.Rows.{decided}
+use Rattle.terms.specs.Rows.{decided}
 use Rattle.ledger.proofs.Passes.{pass}
 use Rattle.ledger.proofs.entering.enter_absences.Given as goal
 

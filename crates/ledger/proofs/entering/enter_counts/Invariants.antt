@@ -2,7 +2,7 @@ use Rattle.std.proofs.Common.{◌≡◌, false, take, drop}
 use Rattle.maps.specs.Maps.{Same}
 use Rattle.serial.specs.Entering.{entered}
 use Rattle.serial.specs.Entering.{Room}
-use Rattle.stores.specs.Rows.{decided}
+use Rattle.terms.specs.Rows.{decided}
 use Rattle.ledger.proofs.Passes.{pass}
 use Rattle.ledger.proofs.entering.enter_counts.Given as goal
 

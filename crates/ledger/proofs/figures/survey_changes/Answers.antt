@@ -3,7 +3,7 @@ use Rattle.std.proofs.lemmas.List.{take_all}
 use Rattle.maps.specs.Maps.{Figures}
 use Rattle.terms.specs.declared.cell.Cell.{Cell}
 use Rattle.terms.specs.Fitting.{Fits, described}
-use Rattle.stores.specs.Rows.{decided}
+use Rattle.terms.specs.Rows.{decided}
 use Rattle.serial.specs.Machine.{with_own}
 use Rattle.serial.specs.Surveys.{Changed}
 use Rattle.ledger.specs.Words.{pending_of}

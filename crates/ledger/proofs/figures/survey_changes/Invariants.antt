@@ -2,7 +2,7 @@ use Rattle.std.proofs.Common.{◌*◌, ◌≤◌, List, map, take}
 use Rattle.maps.specs.Maps.{Figures, Map}
 use Rattle.terms.specs.declared.cell.Cell.{Cell}
 use Rattle.terms.specs.Fitting.{Fits, described}
-use Rattle.stores.specs.Rows.{decided}
+use Rattle.terms.specs.Rows.{decided}
 use Rattle.unification.specs.Sheets.{Blank}
 use Rattle.serial.specs.Machine.{with_own}
 use Rattle.serial.specs.Surveys.{Changed}

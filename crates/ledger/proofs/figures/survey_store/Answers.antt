@@ -5,7 +5,7 @@ use Rattle.maps.specs.Maps.{Figures}
 use Rattle.terms.specs.declared.cell.Cell.{Cell}
 use Rattle.terms.specs.Fitting.{Fits, described}
 use Rattle.stores.specs.Means.{row_of}
-use Rattle.stores.specs.Rows.{decided}
+use Rattle.terms.specs.Rows.{decided}
 use Rattle.serial.specs.Machine.{with_own}
 use Rattle.serial.specs.Surveys.{Unchanged}
 use Rattle.serial.proofs.Surveys.{rows_start}

@@ -1,7 +1,7 @@
 use Rattle.std.proofs.Common.{◌*◌, ◌≤◌, map, take}
 use Rattle.maps.specs.Maps.{Figures}
 use Rattle.terms.specs.Fitting.{Fits, described}
-use Rattle.stores.specs.Rows.{decided}
+use Rattle.terms.specs.Rows.{decided}
 use Rattle.unification.specs.Sheets.{Blank}
 use Rattle.serial.specs.Machine.{with_own}
 use Rattle.serial.specs.Surveys.{Unchanged}

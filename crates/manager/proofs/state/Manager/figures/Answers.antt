@@ -2,7 +2,7 @@ use Rattle.std.proofs.Common.{◌≡◌, ◌+◌, List, map, take, sym, subst}
 use Rattle.maps.specs.Maps.{Figures}
 use Rattle.terms.specs.declared.cell.Cell.{Cell}
 use Rattle.terms.specs.Fitting.{Fits, described}
-use Rattle.stores.specs.Rows.{decided}
+use Rattle.terms.specs.Rows.{decided}
 use Rattle.serial.specs.Machine.{KeysOnce, with_own}
 use Rattle.serial.proofs.Surveys.{survey_both}
 use Rattle.ledger.specs.declared.entry.PendingChange.{PendingChange}

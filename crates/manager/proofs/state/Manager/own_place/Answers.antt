@@ -1,6 +1,6 @@
 use Rattle.std.proofs.Common.{List, subst, MatchOption}
 use Rattle.maps.specs.Maps.{In}
-use Rattle.stores.specs.Rows.{cells_of}
+use Rattle.terms.specs.Fitting.{cells_of}
 use Rattle.ledger.specs.declared.entry.PendingChange.{PendingChange}
 use Rattle.ledger.specs.Covering.{For, FirstFor}
 use Rattle.manager.proofs.state.Manager.own_place.Goals as goal
