@@ -10,18 +10,18 @@ use Rattle.stores.specs.Places.{taken, held, rows_in, look, Apart, NoHit, AtHit,
 use Rattle.stores.specs.Table.{place_of, holding_of, contents}
 use Rattle.stores.proofs.Writes.{PutList, DropList, hit_apart, put_hit, drop_hit, drop_none, put_full, free_apart, put_free}
 use Rattle.stores.proofs.Puts.{put_means, drop_means}
-use Rattle.stores.proofs.Records.{contents_length, contents_set}
+use Rattle.std.proofs.lemmas.List.{length-map, map-set}
 
 module _ (rs : List Record) (apart : Apart (held (contents rs))) where
   still_apart : (k : ℕ) (r : Record) → Apart (held (set (contents rs) k (place_of r))) → Apart (held (contents (set rs k r)))
-  still_apart k r a = subst (λ ps. Apart (held ps)) (sym (contents_set rs k r)) a
+  still_apart k r a = subst (λ ps. Apart (held ps)) (sym (map-set place_of rs k r)) a
 
   put_at : (k : ℕ) (r : Record) (q : List Cell) (n : ℕ) → PutList (held (contents rs)) (held (set (contents rs) k (place_of r))) (length (contents rs)) q n (Ok tt)
       → Put (look (held (contents rs))) (look (held (contents (set rs k r)))) (length (rows_in (held (contents rs)))) (length rs) q n (Ok tt)
   put_at k r q n p =
       put_means (held (contents rs)) (held (contents (set rs k r))) (length rs) q n (Ok tt)
-      (subst (λ m. PutList (held (contents rs)) (held (contents (set rs k r))) m q n (Ok tt)) (contents_length rs)
-      (subst (λ ps. PutList (held (contents rs)) (held ps) (length (contents rs)) q n (Ok tt)) (sym (contents_set rs k r)) p))
+      (subst (λ m. PutList (held (contents rs)) (held (contents (set rs k r))) m q n (Ok tt)) (length-map rs place_of)
+      (subst (λ ps. PutList (held (contents rs)) (held ps) (length (contents rs)) q n (Ok tt)) (sym (map-set place_of rs k r)) p))
 
   module _ (e : Entry) where
     module _ (k : ℕ) (at : AtHit (contents rs) (row_of e) k) where
@@ -33,13 +33,13 @@ module _ (rs : List Record) (apart : Apart (held (contents rs))) where
 
     module _ (none : NoHit (contents rs) (row_of e) (length rs)) where
       none' : NoHit (contents rs) (row_of e) (length (contents rs))
-      none' = subst (λ m. NoHit (contents rs) (row_of e) m) (sym (contents_length rs)) none
+      none' = subst (λ m. NoHit (contents rs) (row_of e) m) (sym (length-map rs place_of)) none
 
       pub full_put : count_by taken (contents rs) ≡ length rs → Put (look (held (contents rs))) (look (held (contents rs))) (length (rows_in (held (contents rs)))) (length rs) (row_of e) (count_of e.count) (Err Full)
       full_put all =
           put_means (held (contents rs)) (held (contents rs)) (length rs) (row_of e) (count_of e.count) (Err Full)
-          (subst (λ m. PutList (held (contents rs)) (held (contents rs)) m (row_of e) (count_of e.count) (Err Full)) (contents_length rs)
-          (put_full (contents rs) (row_of e) none' (all ∙ sym (contents_length rs)) (count_of e.count)))
+          (subst (λ m. PutList (held (contents rs)) (held (contents rs)) m (row_of e) (count_of e.count) (Err Full)) (length-map rs place_of)
+          (put_full (contents rs) (row_of e) none' (all ∙ sym (length-map rs place_of)) (count_of e.count)))
 
       module _ (k : ℕ) (at : AtFree (contents rs) k) where
         pub add_apart : Apart (held (contents (set rs k (Some e))))
@@ -56,10 +56,10 @@ module _ (rs : List Record) (apart : Apart (held (contents rs))) where
       pub dropped : Dropped (look (held (contents rs))) (look (held (contents (set rs k None)))) q true
       dropped =
           drop_means (held (contents rs)) (held (contents (set rs k None))) q true
-          (subst (λ ps. DropList (held (contents rs)) (held ps) q true) (sym (contents_set rs k None))
+          (subst (λ ps. DropList (held (contents rs)) (held ps) q true) (sym (map-set place_of rs k None))
           (drop_hit (contents rs) q k at apart None None (λ t. absurd (both_ways false refl t)) refl))
 
     pub not_dropped : NoHit (contents rs) q (length rs) → Dropped (look (held (contents rs))) (look (held (contents rs))) q false
     not_dropped none =
         drop_means (held (contents rs)) (held (contents rs)) q false
-        (drop_none (contents rs) q (subst (λ m. NoHit (contents rs) q m) (sym (contents_length rs)) none))
+        (drop_none (contents rs) q (subst (λ m. NoHit (contents rs) q m) (sym (length-map rs place_of)) none))

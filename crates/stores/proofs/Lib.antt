@@ -1,4 +1,4 @@
-mod Records
 mod Changes
 pub mod Writes
 pub mod Puts
+mod Finding

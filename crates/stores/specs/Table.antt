@@ -1,13 +1,14 @@
 -- What the records of a table hold.
-use Rattle.std.specs.Prelude.{◌≡◌, ◌≤◌, List, [], ◌∷◌, map, length, Some, None, Ok, Err, Option, Result}
+use Rattle.std.specs.Prelude.{◌≡◌, ℕ, ◌<◌, ◌≤◌, ◌⊎◌, List, [], ◌∷◌, map, length, Some, None, Ok, Err, Option, Result}
 use Rattle.std.proofs.Common.{arith}
 use Rattle.std.specs.List.{AllByRecursion}
 use Rattle.std.proofs.lemmas.List.{length-map}
+use Rattle.terms.specs.declared.cell.Cell.{Cell}
 use Rattle.stores.specs.declared.entry.Entry.{Entry}
 use Rattle.stores.specs.declared.fault.StoreFault.{StoreFault}
 use Rattle.stores.specs.declared.fault.StoreFault.TheVariants.{Length}
 use Rattle.stores.specs.Means.{Allowed, count_of, row_of}
-use Rattle.stores.specs.Places.{Holding, Place, count_at, held, rows_in}
+use Rattle.stores.specs.Places.{Holding, Place, AtFree, AtHit, NoHit, count_at, held, rows_in}
 use Rattle.stores.specs.Maps.{held_room}
 
 abbrev pub holding_of : Entry → Holding
@@ -23,6 +24,10 @@ place_of (Some e) = Some (holding_of e)
 
 abbrev pub contents : List Record → List Place
 contents rs = map place_of rs
+
+-- the place for a put: that of the row, or a free one where no record has the row
+abbrev pub PutPlace : List Record → List Cell → ℕ → Type 0
+PutPlace rs q k = (k < length rs) × (AtHit (contents rs) q k ⊎ (NoHit (contents rs) q (length rs) × AtFree (contents rs) k))
 
 -- every count is at most 999,999
 pub contents_small : (rs : List Record) → AllByRecursion (λ p. count_at p ≤ 999999) (contents rs)

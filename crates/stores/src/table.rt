@@ -3,15 +3,15 @@ ghost use Rattle.std.specs.Prelude.{◌≡◌, ◌<◌, ◌≤◌, [], length, c
 ghost use Rattle.stores.specs.declared.fault.StoreFault.TheVariants.{Length};
 ghost use Rattle.stores.specs.Means.{Allowed};
 ghost use Rattle.terms.specs.Fitting.{cells_of};
-ghost use Rattle.stores.specs.Places.{held, rows_in, look, taken, Apart, NoHit, AtHit, AtFree};
+ghost use Rattle.stores.specs.Places.{held, rows_in, look, taken, Apart, NoHit, AtHit};
 ghost use Rattle.stores.specs.Maps.{listed_of, look_small};
-ghost use Rattle.stores.specs.Table.{contents, contents_small, contents_room, Cleared};
+ghost use Rattle.stores.specs.Table.{contents, contents_small, contents_room, Cleared, PutPlace};
 
 use crate::count::Count;
 use crate::entry::{Entry, Record, Size};
 use crate::fault::StoreFault;
 use crate::length::check_places;
-use crate::places::{count_in, free_all, free_place, place_of, used_places, used_row};
+use crate::places::{count_in, free_all, place_for, place_of, used_places, used_row};
 use crate::store::Store;
 use terms::row::Row;
 
@@ -44,6 +44,21 @@ impl<'a> Table<'a> {
     }
 }
 
+// Lent as a whole to look, so that what was found is known of the records that are then written.
+impl Table<'_> {
+    fn place(&self, key: &Row) -> Option<usize>
+        ensures { MatchOption result (NoHit (contents self.now.records.now) (cells_of key.now) (length self.now.records.now)) (λ k. (k < length self.now.records.now) × AtHit (contents self.now.records.now) (cells_of key.now) k) }
+    {
+        place_of(self.records, key)
+    }
+
+    fn place_to_put(&self, key: &Row) -> Option<usize>
+        ensures { MatchOption result (NoHit (contents self.now.records.now) (cells_of key.now) (length self.now.records.now) × (count_by taken (contents self.now.records.now) ≡ length self.now.records.now)) (PutPlace self.now.records.now (cells_of key.now)) }
+    {
+        place_for(self.records, key)
+    }
+}
+
 impl<'a> Store for Table<'a> {
     ghost means = { λ t. look (held (contents t.records.now)) };
 
@@ -67,16 +82,17 @@ impl<'a> Store for Table<'a> {
 
     fn put(&mut self, key: &Row, count: Count) -> Result<(), StoreFault> {
         let entry = Entry { key: *key, count };
-        let place = place_of(self.records, key).or_else(|| free_place(self.records));
-        let Some(k) = place else {
-            return Err(StoreFault::Full);
-        };
-        self.records[k] = Some(entry);
-        Ok(())
+        match self.place_to_put(key) {
+            Some(k) => {
+                self.records[k] = Some(entry);
+                Ok(())
+            }
+            None => Err(StoreFault::Full),
+        }
     }
 
     fn remove(&mut self, key: &Row) -> bool {
-        match place_of(self.records, key) {
+        match self.place(key) {
             Some(k) => {
                 self.records[k] = None;
                 true

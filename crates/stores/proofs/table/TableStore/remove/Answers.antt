@@ -1,6 +1,5 @@
-use Rattle.std.proofs.Common.{refl, arith}
+use Rattle.std.proofs.Common.{None, refl, arith}
 use Rattle.std.proofs.lemmas.List.{length-set}
-use Rattle.stores.specs.declared.entry.Record.TheVariants.{None}
 use Rattle.terms.specs.Fitting.{cells_of}
 use Rattle.stores.proofs.Changes.{drop_apart, dropped, not_dropped}
 use Rattle.stores.proofs.table.TableStore.remove.Goals as goal
