@@ -20,25 +20,6 @@ use Rattle.image.specs.Lines.{Blanks, Marked, Scanned, shown, blank_line}
 use Rattle.image.specs.Texts.{Proper, BadField}
 use Rattle.image.proofs.Decoding.{first_bad, bad_cell, bad_mark, bad_tail, bad_end, good, blank_wrong, count_wrong, large_wrong, tail_seven}
 
--- every row can be kept
-module _ (M : Meaning) (sound : Sound M) where
-  under_short : (l : ℕ) (o : Option ℕ) (n : ℕ) → M.tops l ≡ o → Under o n → n < 10 ^ 9
-  under_short l None n e u = absurd u
-  under_short l (Some t) n e u = let b = sound.bounded l t e in omega arith
-
-  fine_short : (b d : Bool) (c : Cell) → MatchBool b (c.number < 32) (MatchBool d (c.number < 0) (Value M c.letter c.number)) → Short c
-  fine_short true d c f = omega arith
-  fine_short false true c f = absurd (omega arith)
-  fine_short false false c f = under_short c.letter (M.tops c.letter) c.number refl f
-
-  all_fine : (cs : List Cell) → AllByRecursion (Fine M 0) cs → AllByRecursion Short cs
-  all_fine [] f = tt
-  all_fine (c ∷ cs) f = (fine_short (eqb c.letter 83) (eqb c.letter 86) c f.0, all_fine cs f.1)
-
-  pub row_storable : (sig : List ℕ) (cs : List Cell) → RowCells sig M cs → Storable cs
-  row_storable sig [] r = absurd (let w = r.term.whole in omega arith)
-  row_storable sig (c ∷ cs) r = record { some = omega arith; few = r.few; short = all_fine (c ∷ cs) r.term.fine }
-
 pub key_some : (k : Row) (cs : List Cell) → cells_of k ≡ cs → 0 < length cs
 key_some k cs e = (subst Storable e (storable_row k)).some
 

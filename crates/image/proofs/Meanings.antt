@@ -105,7 +105,7 @@ module _ (Row : List Cell → Type 0) (fit : (cs : List Cell) → Row cs → Sto
     where
       go : (o : Place) → row_at o ≡ cs → hits o cs ≡ true
       go None q = absurd (let a = f.some in let l = ap length q in omega arith)
-      go (Some x) q = ap (λ v. same v cs) q ∙ same_self cs
+      go (Some x) q = ap (λ v. cells_eq v cs) q ∙ same_self cs
 
   pub front_from : (s : List ℕ) → Shows Row s → (cs : List Cell) → hits (meaning s) cs ≡ true → take 120 s ≡ slots 12 cs
   front_from s w cs h = shows_front s w ∙ ap (slots 12) (go (meaning s) h)

@@ -13,7 +13,7 @@ use Rattle.image.specs.Lines.{slots}
 use Rattle.image.specs.Texts.{Proper, text}
 use Rattle.image.specs.Meaning.{line, lines_in, meaning, entries, Shows, Sound, NoKey, AtKey}
 use Rattle.image.specs.Open.{Sizes, SameRow, Good, GoodTo, Accepted}
-use Rattle.image.proofs.Decided.{row_storable}
+use Rattle.terms.proofs.Storing.{row_storable}
 use Rattle.image.proofs.Decoding.{text_front}
 use Rattle.image.proofs.Meanings.{hits_from, shows_front, shows_cells, entries_length, entries_at, shows_from, meaning_from}
 
@@ -22,23 +22,23 @@ held_append [] qs = refl
 held_append (None ∷ rs) qs = held_append rs qs
 held_append (Some e ∷ rs) qs = ap (λ t. e ∷ t) (held_append rs qs)
 
-look_push : (es : List Holding) (x : Holding) (q : List Cell) → look es q ≡ None → same x.0 q ≡ false → look (es ++ (x ∷ [])) q ≡ None
-look_push [] x q n f = cond-false (same x.0 q) _ _ f
-look_push (e ∷ es) x q n f = go (same e.0 q) n (λ m. look_push es x q m f)
+look_push : (es : List Holding) (x : Holding) (q : List Cell) → look es q ≡ None → cells_eq x.0 q ≡ false → look (es ++ (x ∷ [])) q ≡ None
+look_push [] x q n f = cond-false (cells_eq x.0 q) _ _ f
+look_push (e ∷ es) x q n f = go (cells_eq e.0 q) n (λ m. look_push es x q m f)
   where
     go : (b : Bool) → cond b (Some e.1) (look es q) ≡ None → (look es q ≡ None → look (es ++ (x ∷ [])) q ≡ None) → cond b (Some e.1) (look (es ++ (x ∷ [])) q) ≡ None
     go true n r = absurd (let z : ◌≡◌ {A = ℕ} 0 1 = cc in omega arith)
     go false n r = r n
 
-head_none : (e : Holding) (es : List Holding) (q : List Cell) → look (e ∷ es) q ≡ None → (same e.0 q ≡ false) × (look es q ≡ None)
-head_none e es q n = go (same e.0 q) n
+head_none : (e : Holding) (es : List Holding) (q : List Cell) → look (e ∷ es) q ≡ None → (cells_eq e.0 q ≡ false) × (look es q ≡ None)
+head_none e es q n = go (cells_eq e.0 q) n
   where
     go : (b : Bool) → cond b (Some e.1) (look es q) ≡ None → (b ≡ false) × (look es q ≡ None)
     go true n = absurd (let z : ◌≡◌ {A = ℕ} 0 1 = cc in omega arith)
     go false n = (refl, n)
 
-flip_false : (p q : List Cell) → same p q ≡ false → same q p ≡ false
-flip_false p q e = ⊎_elim (λ t. absurd (both_ways (same p q) e (ap (same p) (same_true q p t) ∙ same_self p))) (λ f. f) (cases_Bool (same q p))
+flip_false : (p q : List Cell) → cells_eq p q ≡ false → cells_eq q p ≡ false
+flip_false p q e = ⊎_elim (λ t. absurd (both_ways (cells_eq p q) e (ap (cells_eq p) (same_true q p t) ∙ same_self p))) (λ f. f) (cases_Bool (cells_eq q p))
 
 absent : (o : Option ℕ) → is_some o ≡ false → o ≡ None
 absent None e = refl

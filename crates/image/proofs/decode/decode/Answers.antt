@@ -6,7 +6,8 @@ use Rattle.columns.specs.Columns.{blank, columns}
 use Rattle.terms.specs.Fitting.{cells_of}
 use Rattle.image.specs.Lines.{Scanned, shown}
 use Rattle.image.proofs.Decoding.{tail_seven}
-use Rattle.image.proofs.Decided.{row_storable, key_some, mark_first, tail_first, end_first, good_first, cell_refused, mark_row, tail_none, tail_large, end_row, good_row}
+use Rattle.terms.proofs.Storing.{row_storable}
+use Rattle.image.proofs.Decided.{key_some, mark_first, tail_first, end_first, good_first, cell_refused, mark_row, tail_none, tail_large, end_row, good_row}
 use Rattle.image.proofs.decode.decode.Goals as goal
 
 -- the blank tail, at its length

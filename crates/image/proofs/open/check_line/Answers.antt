@@ -5,7 +5,7 @@ use Rattle.stores.specs.declared.entry.Entry.{Entry}
 use Rattle.stores.specs.Table.{holding_of}
 use Rattle.image.specs.Texts.{BadField, Decoded}
 use Rattle.image.proofs.Cutting.{bad_within}
-use Rattle.image.proofs.Decided.{row_storable}
+use Rattle.terms.proofs.Storing.{row_storable}
 use Rattle.image.proofs.Meanings.{line_is, line_part}
 use Rattle.image.proofs.Opening.{good_none, good_some, again}
 use Rattle.image.proofs.open.check_line.Goals as goal

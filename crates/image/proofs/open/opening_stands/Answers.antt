@@ -1,5 +1,5 @@
 use Rattle.terms.specs.Proper.{RowCells}
-use Rattle.image.proofs.Decided.{row_storable}
+use Rattle.terms.proofs.Storing.{row_storable}
 use Rattle.image.proofs.Exact.{exactly}
 use Rattle.image.proofs.open.opening_stands.Goals as goal
 
