@@ -17,20 +17,15 @@ use terms::row::Row;
 pub fn place_of(changes: &[PendingChange], transaction: u32, row: &Row) -> Option<usize>
     ensures { MatchOption result ((c : PendingChange) → In c changes.now → ¬ For transaction (cells_of row.now) c) (FirstFor transaction (cells_of row.now) changes.now) }
 {
-    for (place, change) in changes.iter().enumerate() {
-        if change.owner == transaction && change.row == *row {
-            return Some(place);
-        }
-    }
-    None
+    changes
+        .iter()
+        .position(|change| change.owner == transaction && change.row == *row)
 }
 
 // The transaction's change for the row, if it has one.
 pub fn change_for(changes: &[PendingChange], transaction: u32, row: &Row) -> Option<Option<Count>>
     ensures { option_map change_of result ≡ pending_for decided transaction (cells_of row.now) (map pending_of changes.now) }
 {
-    match place_of(changes, transaction, row) {
-        Some(place) => Some(changes[place].change),
-        None => None,
-    }
+    let place = place_of(changes, transaction, row)?;
+    Some(changes[place].change)
 }

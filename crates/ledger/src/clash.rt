@@ -28,10 +28,7 @@ impl Right {
     pub fn writes(self) -> bool
         ensures { MatchBool result (right_of self ≡ writing) (right_of self ≡ reading) }
     {
-        match self {
-            Right::Read => false,
-            Right::Write => true,
-        }
+        self == Right::Write
     }
 }
 

@@ -39,13 +39,10 @@ fn count_altering<S: Store>(
     ensures count { result ≡ count_by (λ c. alters absences transaction (S.Store.means store.now) (pending_of c)) changes.now }
     ensures few { result ≤ length changes.now }
 {
-    let mut number = 0;
-    for change in changes {
-        if is_altering(store, change, transaction, absences) {
-            number += 1;
-        }
-    }
-    number
+    changes
+        .iter()
+        .filter(|change| is_altering(store, change, transaction, absences))
+        .count()
 }
 
 fn enter_absence<S: Store>(store: &mut S, change: &PendingChange, transaction: u32)

@@ -1,8 +1,8 @@
 // The entries of the rolls, each with the transaction that it is of.
 use rolls::entry::Owned;
 use stores::count::Count;
-use terms::row::Row;
 use terms::pattern::Pattern;
+use terms::row::Row;
 
 // An open transaction, and the planner that began it.
 #[derive(Clone, Copy)]

@@ -16,22 +16,20 @@ use crate::entry::{PendingChange, Reservation};
 use crate::fitting::fits_key;
 use kinds::kind::Kind;
 use stores::count::Count;
-use terms::row::Row;
 use stores::store::Store;
 use terms::cell::Cell;
 use terms::pattern::Pattern;
+use terms::row::Row;
 use terms::signature::Signature;
 
 // The pattern of the transaction's reservation of that number.
 pub fn pattern_of(reservations: &[Reservation], transaction: u32, number: u32) -> Option<Pattern>
     ensures { Owns transaction number reservations.now result }
 {
-    for held in reservations {
-        if held.owner == transaction && held.number == number {
-            return Some(held.pattern);
-        }
-    }
-    None
+    let own = reservations
+        .iter()
+        .find(|held| held.owner == transaction && held.number == number)?;
+    Some(own.pattern)
 }
 
 // Whether a row of the store is counted as it stands there.

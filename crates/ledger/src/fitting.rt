@@ -11,21 +11,10 @@ ghost use Rattle.ledger.specs.Covering.{Covered, Covers};
 use crate::entry::Reservation;
 use compare::overlap::fits;
 use kinds::kind::Kind;
-use terms::row::Row;
 use terms::cell::Cell;
 use terms::pattern::Pattern;
+use terms::row::Row;
 use terms::signature::Signature;
-
-// A row as stores keep it.
-pub fn key_of(row: &Row) -> Row
-    requires { Storable (cells_of row.now) }
-    ensures { cells_of result ≡ cells_of row.now }
-{
-    match Row::new(row.cells()) {
-        Some(key) => key,
-        None => unreachable(),
-    }
-}
 
 // Whether a row of a store fits the pattern. Cells that are no row fit no pattern.
 pub fn fits_key<K: Kind>(

@@ -1,3 +1,4 @@
 pub mod Lists
 pub mod Sizes
 pub mod Figures
+pub mod Finding

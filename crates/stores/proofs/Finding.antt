@@ -1,29 +1,19 @@
 -- The first record that passes a test, and the records in use.
-use Rattle.std.proofs.Common.{◌≡◌, ℕ, ◌<◌, zero, suc, ◌+◌, ◌≤◌, Bool, true, false, cond, not, ltb, replicate, count_by, List, [], ◌∷◌, length, get_or, map, Some, None, MatchOption, Option, sym, refl, ap, ◌∙◌, arith}
-use Rattle.std.specs.List.{position, position_or_len, filter_map, slice_get}
+use Rattle.std.proofs.Common.{◌≡◌, ℕ, ◌<◌, zero, suc, ◌+◌, Bool, true, false, cond, not, replicate, count_by, List, [], ◌∷◌, length, get_or, map, Some, None, MatchOption, Option, sym, refl, ap, ◌∙◌, arith}
+use Rattle.std.specs.List.{position, filter_map, slice_get}
 use Rattle.std.specs.Option.{option_map}
 use Rattle.std.proofs.lemmas.List.{get_or-map, length-map}
 use Rattle.std.proofs.lemmas.Option.{slice_get-map}
-use Rattle.std.proofs.lemmas.List.Sums.{prefix_len_passes, sum_by-cons}
-use Rattle.std.proofs.lemmas.Bool.{not-true, cond-true, ltb-false, both_ways}
+use Rattle.std.proofs.lemmas.List.Sums.{sum_by-cons}
+use Rattle.std.proofs.lemmas.Bool.{not-true, both_ways}
 use Rattle.std.proofs.lemmas.List.Quantifiers.{position-Some}
+use Rattle.maps.proofs.Finding.{none_passes}
 use Rattle.terms.specs.declared.cell.Cell.{Cell}
 use Rattle.stores.specs.declared.entry.Entry.{Entry}
 use Rattle.stores.specs.Means.{count_of}
 use Rattle.stores.proofs.Writes.{none_find, first_find}
 use Rattle.stores.specs.Places.{count_at, hits, taken, held, look, NoHit, AtHit, AtFree}
 use Rattle.stores.specs.Table.{Record, place_of, contents, holding_of}
-
-none_before : {X : Type 0} (p : X → Bool) (xs : List X) → position p xs ≡ None → length xs ≤ position_or_len p xs
-none_before p xs e = go (ltb (position_or_len p xs) (length xs)) refl
-  where
-    go : (b : Bool) → ltb (position_or_len p xs) (length xs) ≡ b → length xs ≤ position_or_len p xs
-    go true h = absurd (let q : ◌≡◌ {A = Option ℕ} None (Some (position_or_len p xs)) = sym e ∙ cond-true (ltb (position_or_len p xs) (length xs)) (Some (position_or_len p xs)) None h in let z : ◌≡◌ {A = ℕ} 0 1 = cc in omega arith)
-    go false h = ltb-false _ _ h
-
--- nothing passes where no position is found
-none_passes : {X : Type 0} (p : X → Bool) (xs : List X) → position p xs ≡ None → (k : ℕ) (d : X) → k < length xs → p (get_or xs k d) ≡ false
-none_passes p xs e k d l = not-true (p (get_or xs k d)) (prefix_len_passes (λ x. not (p x)) xs k d (omega (arith, none_before p xs e)))
 
 pub place_found : (q : List Cell) (rs : List Record) (o : Option ℕ) → o ≡ position (λ r. hits (place_of r) q) rs
     → MatchOption o (NoHit (contents rs) q (length rs)) (λ k. (k < length rs) × AtHit (contents rs) q k × NoHit (contents rs) q k)

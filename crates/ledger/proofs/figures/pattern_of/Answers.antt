@@ -1,25 +1,33 @@
-use Rattle.std.proofs.Common.{sym, refl, subst}
-use Rattle.maps.specs.Maps.{In}
-use Rattle.rolls.proofs.Entries.{at_in, none_more, none_all}
-use Rattle.ledger.specs.Counting.{Own}
+use Rattle.std.proofs.Common.{◌≡◌, ℕ, Bool, ◌&&◌, nat_eq, Decides, None, Some, ap, sym, ◌∙◌, subst, refl, rules, tests}
+use Rattle.std.specs.Option.{option_map}
+use Rattle.std.specs.List.{find}
+use Rattle.std.proofs.lemmas.Bool.Decides.{Decides-and, Decides-eqb}
+use Rattle.std.proofs.lemmas.Iterator.{YieldsList-from_slice}
+use Rattle.std.proofs.lemmas.Iterator.Search.{find_from_yields_List}
+use Rattle.ledger.specs.declared.entry.Reservation.{Reservation}
+use Rattle.ledger.specs.Counting.{Own, Owns}
+use Rattle.maps.proofs.Finding.{found}
 use Rattle.ledger.proofs.figures.pattern_of.Goals as goal
-use Rattle.ledger.proofs.figures.pattern_of.Goals.{else-held-transaction-via-then-held-transaction+else-held-number, else-held-transaction-via-else-held-transaction}
 
-pub returns-then-held-number : goal.returns-then-held-number
-returns-then-held-number c =
+-- whether a reservation is the transaction's and has the number
+abbrev is_own : ℕ → ℕ → Reservation → Bool
+is_own t n h = nat_eq h.owner t && nat_eq h.number n
+
+own_decides : (t n : ℕ) (h : Reservation) → Decides (is_own t n h) (Own t n h)
+own_decides t n h = Decides-and (nat_eq h.owner t) (nat_eq h.number n) (Decides-eqb h.owner t) (Decides-eqb h.number n)
+
+pub returns-in_err-own : goal.returns-in_err-own
+returns-in_err-own c =
     let hs = c.args.reservations.now in
-    let x = c.held-item.result in
-    (x, subst (λ y. In y hs) (sym c.held-item.is) (at_in hs c.loop-held.held-index x c.loop-held-test.true), (c.if-held-transaction.true, c.if-held-number.true), refl)
-
-pub loop-held-preserved : goal.loop-held-preserved
-loop-held-preserved c =
-    none_more (Own c.args.transaction c.args.number) c.args.reservations.now c.loop-held.held-index c.held-item.result c.loop-held-test.true c.held-item.is c.loop-held.invariant
-    (elim c.else-held-transaction.branch [
-      | else-held-transaction-via-then-held-transaction+else-held-number w ↦ λ p. w.if-held-number.false p.1
-      | else-held-transaction-via-else-held-transaction w ↦ λ p. w.if-held-transaction.false p.0
-    ])
+    let test = is_own c.args.transaction c.args.number in
+    let e : None ≡ find test hs = ap (option_map (λ x. x.now)) (sym c.in_err-own.was) ∙ find_from_yields_List test _ _ c.find.result c.find.ensures.ran (YieldsList-from_slice hs cc) (λ x b p k. search (rules, tests)) in
+    let none = found (Own c.args.transaction c.args.number) test (own_decides c.args.transaction c.args.number) hs None e in
+    subst (Owns c.args.transaction c.args.number hs) (sym c.from_residual.ensures) (λ o. none o.0 o.1 o.2)
 
 pub returns : goal.returns
 returns c =
-    let none = none_all (Own c.args.transaction c.args.number) c.args.reservations.now c.loop-held.held-index c.loop-held-test.false c.loop-held.invariant in
-    λ o. none o.0 o.1 o.2
+    let hs = c.args.reservations.now in
+    let test = is_own c.args.transaction c.args.number in
+    let e : Some c.in_ok-own.own.now ≡ find test hs = ap (option_map (λ x. x.now)) (sym c.in_ok-own.was) ∙ find_from_yields_List test _ _ c.find.result c.find.ensures.ran (YieldsList-from_slice hs cc) (λ x b p k. search (rules, tests)) in
+    let f = found (Own c.args.transaction c.args.number) test (own_decides c.args.transaction c.args.number) hs (Some c.in_ok-own.own.now) e in
+    (c.in_ok-own.own.now, f.0, f.1, refl)
