@@ -1,5 +1,4 @@
-mod Moved
-mod Going
+mod Checking
 mod Opens
 mod Reserves
 pub mod Sounds

@@ -6,5 +6,4 @@ pub mod Reserving
 pub mod Looking
 pub mod Surveying
 pub mod Tickets
-pub mod Calls
 pub mod New

@@ -26,10 +26,9 @@ use Rattle.manager.specs.Ending.{sizes, is_open}
 abbrev pub proper_row : List ℕ → Meaning → List Cell → Check
 proper_row sig M cs = (RowCells sig M cs, λ f. (e : PatternFault) × (f ≡ Pattern e) × CellsRefused (RowCells sig M) M cs e)
 
--- a row that is read is as it was written
-abbrev pub RowChecked : List ℕ → Meaning → List Cell → Result Row ManagerFault → Type 0
-RowChecked sig M cs (Ok r) = (cells_of r ≡ cs) × RowCells sig M cs
-RowChecked sig M cs (Err f) = (proper_row sig M cs).1 f
+-- the checks that look, write and strike begin with
+abbrev pub row_checks : List ℕ → Meaning → Memory → Book → ℕ → List Cell → List Check
+row_checks sig M x b t row = sizes x ∷ is_open t b ∷ proper_row sig M row ∷ []
 
 -- a full roll has a change of t's for the row already
 abbrev pub HasPlace : ℕ → List Cell → Book → Type 0
@@ -63,6 +62,10 @@ strike_rules sig M b t row =
 
 abbrev pub strike_checks : List ℕ → Meaning → Memory → Book → ℕ → List Cell → List Check
 strike_checks sig M x b t row = sizes x ∷ strike_rules sig M b t row
+
+-- the checks that write and strike end with
+abbrev pub enter_rules : List ℕ → Meaning → Book → ℕ → List Cell → List Check
+enter_rules sig M b t row = unless NoneWrites (Covered sig M t row true b.reservations) ∷ unless ChangesFull (HasPlace t row b) ∷ []
 
 -- t's change for the row becomes this one, in its place or at the end, and all else is as it was
 pub record Changed (t : ℕ) (row : List Cell) (a : Change) (b b' : Book) : Type 0 where

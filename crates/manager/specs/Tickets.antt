@@ -1,9 +1,9 @@
 -- What becomes of tickets.
-use Rattle.std.specs.Prelude.{◌≡◌, List, Ok, Err, Result}
+use Rattle.std.specs.Prelude.{◌≡◌, ℕ, List, Ok, Err, Result}
 use Rattle.rolls.specs.Rolls.{Has}
 use Rattle.manager.specs.declared.fault.ManagerFault.{ManagerFault}
-use Rattle.manager.specs.declared.host.Abandoning.{Abandoning}
-use Rattle.manager.specs.declared.host.Abandoning.TheVariants.{Changes, NotOpen, Back}
+use Rattle.manager.specs.declared.host.AbandonFault.{AbandonFault}
+use Rattle.manager.specs.declared.host.AbandonFault.TheVariants.{NotOpen, Back}
 use Rattle.manager.specs.declared.memory.Memory.{Memory}
 use Rattle.manager.specs.declared.ticket.Ticket.{Ticket}
 use Rattle.manager.specs.Book.{Book, Sizes}
@@ -16,7 +16,7 @@ Ticketed cs Granted Still k (Ok a) = Passed cs × Granted a
 Ticketed cs Granted Still k (Err p) = (p.0 ≡ k) × Refused cs p.1 × Still
 
 -- a ticket is taken, unless the memory of a roll has not its size; only an open transaction's entries leave
-abbrev pub GivenUp : Memory → Book → Book → Ticket → Abandoning → Type 0
-GivenUp x b b' k (Changes n) = Sizes x × Has (λ e. e.number) k.number b.transactions × Abandoned k.number b b' n
-GivenUp x b b' k NotOpen = Sizes x × (Has (λ e. e.number) k.number b.transactions → ⊥) × (b' ≡ b)
-GivenUp x b b' k (Back back) = (Sizes x → ⊥) × (back ≡ k) × (b' ≡ b)
+abbrev pub GivenUp : Memory → Book → Book → Ticket → Result ℕ AbandonFault → Type 0
+GivenUp x b b' k (Ok n) = Sizes x × Has (λ e. e.number) k.number b.transactions × Abandoned k.number b b' n
+GivenUp x b b' k (Err NotOpen) = Sizes x × (Has (λ e. e.number) k.number b.transactions → ⊥) × (b' ≡ b)
+GivenUp x b b' k (Err (Back back)) = (Sizes x → ⊥) × (back ≡ k) × (b' ≡ b)

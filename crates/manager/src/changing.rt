@@ -1,5 +1,5 @@
 // Look, write and strike.
-ghost use Rattle.std.specs.Prelude.{◌≡◌, MatchBool, MatchOption};
+ghost use Rattle.std.specs.Prelude.{◌≡◌, [], ◌∷◌, MatchBool, MatchOption};
 ghost use Rattle.std.specs.Option.{option_map};
 ghost use Rattle.maps.specs.Maps.{In};
 ghost use Rattle.terms.specs.Fitting.{cells_of};
@@ -11,9 +11,10 @@ ghost use Rattle.ledger.specs.declared.entry.PendingChange.{PendingChange};
 ghost use Rattle.ledger.specs.Covering.{Covered, FirstFor, For};
 ghost use Rattle.ledger.specs.Words.{change_of};
 ghost use Rattle.manager.specs.Book.{Fixed, Sizes, Well, book_of};
-ghost use Rattle.manager.specs.Checks.{Answers};
+ghost use Rattle.manager.specs.Checks.{Answers, unless};
+ghost use Rattle.manager.specs.declared.fault.ManagerFault.TheVariants.{ChangesFull};
 ghost use Rattle.manager.specs.Ending.{own_map};
-ghost use Rattle.manager.specs.Looking.{Changed, HasPlace, RowChecked, look_checks, strike_checks, write_checks};
+ghost use Rattle.manager.specs.Looking.{Changed, HasPlace, enter_rules, look_checks, row_checks, strike_checks, write_checks};
 
 use crate::check::check_sizes;
 use crate::fault::ManagerFault;
@@ -22,22 +23,29 @@ use crate::state::Manager;
 use kinds::kind::Kind;
 use ledger::changes::{change_for, place_of};
 use ledger::entry::PendingChange;
-use ledger::fitting::{covered, key_of};
+use ledger::fitting::covered;
 use stores::count::Count;
 use terms::row::Row;
 use stores::store::Store;
 use terms::cell::{BLANK, Cell};
 use terms::signature::Signature;
 
-// The row that a caller writes.
-fn read_row<K: Kind>(kind: &K, signature: &Signature, cells: &[Cell]) -> Result<Row, ManagerFault>
-    ensures { RowChecked signature.now.arities (K.Kind.means kind.now) cells.now result }
-{
-    let row = Row::read(signature, kind, cells)?;
-    Ok(row)
-}
-
 impl<K: Kind> Manager<K> {
+    // The row that a caller writes, where the memory has its sizes and the transaction is open.
+    fn read_row(
+        &self,
+        memory: &Memory,
+        transaction: u32,
+        cells: &[Cell],
+    ) -> Result<Row, ManagerFault>
+        ensures { Answers (row_checks self.now.signature.arities (K.Kind.means self.now.kind) memory.now (book_of self.now memory.now) transaction cells.now) (λ r. cells_of r ≡ cells.now) (λ _. Unit {0}) result }
+    {
+        check_sizes(memory)?;
+        self.check_open(memory, transaction)?;
+        let row = Row::read(&self.signature, &self.kind, cells)?;
+        Ok(row)
+    }
+
     fn is_covered(
         &self,
         memory: &Memory,
@@ -94,14 +102,11 @@ impl<K: Kind> Manager<K> {
         ensures blank { Blank sheet.new }
     {
         *sheet = [BLANK; 16];
-        check_sizes(memory)?;
-        self.check_open(memory, transaction)?;
-        let row = read_row(&self.kind, &self.signature, cells)?;
+        let row = self.read_row(memory, transaction, cells)?;
         if !self.is_covered(memory, transaction, &row, false, sheet) {
             return Err(ManagerFault::NoneFits);
         }
-        let key = key_of(&row);
-        Ok(self.seen(memory, store, transaction, &key))
+        Ok(self.seen(memory, store, transaction, &row))
     }
 
     fn own_place(&self, memory: &Memory, transaction: u32, row: &Row) -> Option<usize>
@@ -111,16 +116,16 @@ impl<K: Kind> Manager<K> {
         place_of(self.changes.entries(memory.changes), transaction, row)
     }
 
-    // The transaction's change for the row becomes this one; false when the roll has no place for it.
+    // The transaction's change for the row becomes this one, unless the roll has no place for it.
     fn set_change(
         &mut self,
         memory: &mut Memory,
         transaction: u32,
         row: &Row,
         change: Option<Count>,
-    ) -> bool
+    ) -> Result<(), ManagerFault>
         requires { Sizes memory.old }
-        ensures answer { MatchBool result (HasPlace transaction (cells_of row.now) (book_of self.old memory.old) × Changed transaction (cells_of row.now) (change_of change) (book_of self.old memory.old) (book_of self.new memory.new)) ((HasPlace transaction (cells_of row.now) (book_of self.old memory.old) → ⊥) × (book_of self.new memory.new ≡ book_of self.old memory.old)) }
+        ensures answers { Answers (unless ChangesFull (HasPlace transaction (cells_of row.now) (book_of self.old memory.old)) ∷ []) (λ _. Changed transaction (cells_of row.now) (change_of change) (book_of self.old memory.old) (book_of self.new memory.new)) (λ _. book_of self.new memory.new ≡ book_of self.old memory.old) result }
         ensures fixed { Fixed self.old self.new }
         ensures sizes { Sizes memory.old → Sizes memory.new }
     {
@@ -132,13 +137,38 @@ impl<K: Kind> Manager<K> {
         match self.own_place(memory, transaction, row) {
             Some(place) => {
                 memory.changes[place] = entry;
-                true
+                Ok(())
             }
             None => match self.changes.push(memory.changes, entry) {
-                Ok(()) => true,
-                Err(_) => false,
+                Ok(()) => Ok(()),
+                Err(_) => Err(ManagerFault::ChangesFull),
             },
         }
+    }
+
+    // Enters a change for a row that a reservation of the transaction's own for writing covers.
+    fn enter(
+        &mut self,
+        memory: &mut Memory,
+        transaction: u32,
+        row: &Row,
+        change: Option<Count>,
+        sheet: &mut [Cell; 16],
+    ) -> Result<(), ManagerFault>
+        requires sizes { Sizes memory.old }
+        requires well { Well K.Kind.means self.old memory.old }
+        requires row { RowCells self.old.signature.arities (K.Kind.means self.old.kind) (cells_of row.now) }
+        requires blank { Blank sheet.old }
+        ensures answers { Answers (enter_rules self.old.signature.arities (K.Kind.means self.old.kind) (book_of self.old memory.old) transaction (cells_of row.now)) (λ _. Changed transaction (cells_of row.now) (change_of change) (book_of self.old memory.old) (book_of self.new memory.new)) (λ _. book_of self.new memory.new ≡ book_of self.old memory.old) result }
+        ensures blank { Blank sheet.new }
+        ensures well { Well K.Kind.means self.new memory.new }
+        ensures fixed { Fixed self.old self.new }
+        ensures sizes { Sizes memory.old → Sizes memory.new }
+    {
+        if !self.is_covered(memory, transaction, row, true, sheet) {
+            return Err(ManagerFault::NoneWrites);
+        }
+        self.set_change(memory, transaction, row, change)
     }
 
     // The transaction's change for the row becomes the count.
@@ -158,20 +188,11 @@ impl<K: Kind> Manager<K> {
         ensures sizes { Sizes memory.old → Sizes memory.new }
     {
         *sheet = [BLANK; 16];
-        check_sizes(memory)?;
-        self.check_open(memory, transaction)?;
-        let row = read_row(&self.kind, &self.signature, cells)?;
+        let row = self.read_row(memory, transaction, cells)?;
         let Some(count) = Count::new(count) else {
             return Err(ManagerFault::Count);
         };
-        if !self.is_covered(memory, transaction, &row, true, sheet) {
-            return Err(ManagerFault::NoneWrites);
-        }
-        let key = key_of(&row);
-        if !self.set_change(memory, transaction, &key, Some(count)) {
-            return Err(ManagerFault::ChangesFull);
-        }
-        Ok(())
+        self.enter(memory, transaction, &row, Some(count), sheet)
     }
 
     // The transaction's change for the row becomes absent, even if no row is there.
@@ -190,16 +211,7 @@ impl<K: Kind> Manager<K> {
         ensures sizes { Sizes memory.old → Sizes memory.new }
     {
         *sheet = [BLANK; 16];
-        check_sizes(memory)?;
-        self.check_open(memory, transaction)?;
-        let row = read_row(&self.kind, &self.signature, cells)?;
-        if !self.is_covered(memory, transaction, &row, true, sheet) {
-            return Err(ManagerFault::NoneWrites);
-        }
-        let key = key_of(&row);
-        if !self.set_change(memory, transaction, &key, None) {
-            return Err(ManagerFault::ChangesFull);
-        }
-        Ok(())
+        let row = self.read_row(memory, transaction, cells)?;
+        self.enter(memory, transaction, &row, None, sheet)
     }
 }

@@ -12,10 +12,8 @@ use crate::ticket::Ticket;
 use kinds::kind::Kind;
 use stores::store::Store;
 
-// What becomes of a ticket that is abandoned.
-pub enum Abandoning {
-    // it is taken; so many changes were given up
-    Changes(u32),
+// Why nothing was given up with a ticket.
+pub enum AbandonFault {
     // it is taken, though its transaction is not open here (13)
     NotOpen,
     // it is handed back: the memory of a roll has not its size (40)
@@ -34,13 +32,11 @@ pub fn begin_ticket<K: Kind>(
     ensures fixed { Fixed manager.old manager.new }
     ensures sizes { Sizes memory.old → Sizes memory.new }
 {
-    match manager.begin(memory, planner) {
-        Ok(number) => Ok(Ticket {
-            number,
-            spent: false,
-        }),
-        Err(fault) => Err(fault),
-    }
+    let number = manager.begin(memory, planner)?;
+    Ok(Ticket {
+        number,
+        spent: false,
+    })
 }
 
 // The changes enter the store, and the ticket is spent; a refused commit hands it back.
@@ -65,12 +61,13 @@ pub fn commit_ticket<K: Kind, S: Store>(
     }
 }
 
-// All entries of the transaction leave, and the ticket is spent; it is handed back only if the memory has not its sizes.
+// All entries of the transaction leave, and the ticket is spent: how many changes it had. It is handed back only if the
+// memory has not its sizes.
 pub fn abandon_ticket<K: Kind>(
     manager: &mut Manager<K>,
     memory: &mut Memory,
     mut ticket: Ticket,
-) -> Abandoning
+) -> Result<u32, AbandonFault>
     requires { Well K.Kind.means manager.old memory.old }
     ensures answers { GivenUp memory.old (book_of manager.old memory.old) (book_of manager.new memory.new) ticket result }
     ensures well { Well K.Kind.means manager.new memory.new }
@@ -80,12 +77,12 @@ pub fn abandon_ticket<K: Kind>(
     match manager.abandon(memory, ticket.number) {
         Ok(number) => {
             ticket.spent = true;
-            Abandoning::Changes(number)
+            Ok(number)
         }
         Err(ManagerFault::NotOpen) => {
             ticket.spent = true;
-            Abandoning::NotOpen
+            Err(AbandonFault::NotOpen)
         }
-        Err(_) => Abandoning::Back(ticket),
+        Err(_) => Err(AbandonFault::Back(ticket)),
     }
 }

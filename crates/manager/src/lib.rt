@@ -1,7 +1,6 @@
 // The manager of transactions, reservations and changes.
 #![tactic(auto)]
 
-pub mod call;
 pub mod changing;
 mod check;
 pub mod ending;
@@ -10,7 +9,6 @@ pub mod host;
 pub mod memory;
 pub mod new;
 pub mod reserving;
-pub mod run;
 pub mod state;
 pub mod surveying;
 pub mod ticket;

@@ -2,7 +2,7 @@
 ghost use Rattle.std.specs.Prelude.{IfOk};
 ghost use Rattle.manager.specs.Book.{Well};
 ghost use Rattle.manager.specs.Checks.{Answers};
-ghost use Rattle.manager.specs.Calls.{Made, new_checks};
+ghost use Rattle.manager.specs.New.{Made, new_checks};
 
 use crate::check::check_sizes;
 use crate::fault::ManagerFault;

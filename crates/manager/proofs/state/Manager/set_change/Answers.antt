@@ -1,4 +1,4 @@
-use Rattle.std.proofs.Common.{[], ◌∷◌, ◌++◌, take, set, is_some, refl, ap, ◌∙◌, subst, ap₂, arith}
+use Rattle.std.proofs.Common.{[], ◌∷◌, ◌++◌, take, set, is_some, refl, ap, ◌∙◌, subst, ap₂, inl, arith}
 use Rattle.std.proofs.lemmas.List.{length-take-le, length-set}
 use Rattle.std.proofs.lemmas.Bool.{both_ways}
 use Rattle.terms.specs.Fitting.{cells_of}
@@ -20,8 +20,8 @@ returns-in-Some g c =
     let new : PendingChange = record { owner = t; row = c.args.row.now; change = c.args.change } in
     let b = book_of c.args.self.now c.args.memory.now in
     record {
-      answer = (
-        (λ _. ap is_some (pending_at t q (take n xs) k f.change f.within here f.before)),
+      answers = (
+        ((λ _. ap is_some (pending_at t q (take n xs) k f.change f.within here f.before)), tt),
         record {
           entered = set (take n xs) k new;
           changes = entered_at t q c.args.row.now refl c.args.change (take n xs) k f.change f.within here f.before;
@@ -46,8 +46,8 @@ returns-in-Ok g c =
     let new : PendingChange = record { owner = t; row = c.args.row.now; change = c.args.change } in
     let b = book_of c.args.self.now c.args.memory.now in
     record {
-      answer = (
-        (λ e. absurd (omega arith)),
+      answers = (
+        ((λ e. absurd (omega arith)), tt),
         record {
           entered = take n xs ++ (new ∷ []);
           changes = entered_end t q c.args.row.now refl c.args.change (take n xs) c.in-None.ensures;
@@ -71,8 +71,8 @@ returns-in-Err g c =
     let long = length-take-le n xs (omega arith) in
     let b = book_of c.args.self.now c.args.memory.now in
     record {
-      answer = (
-        (λ h. both_ways _ (ap is_some (pending_none t q (take n xs) c.in-None.ensures)) (h (omega arith))),
+      answers = (
+        inl (refl, λ h. both_ways _ (ap is_some (pending_none t q (take n xs) c.in-None.ensures)) (h (omega arith))),
         ap (λ cs. record { transactions = b.transactions; reservations = b.reservations; changes = cs; last_transaction = b.last_transaction; last_reservation = b.last_reservation; last_commit = b.last_commit; tally = b.tally }) (ap₂ take p.1 p.2),
       );
       fixed = record { signature = refl; kind = refl };

@@ -1,148 +1,81 @@
-use Rattle.std.proofs.Common.{◌≤◌, true, sym, refl, ◌∙◌, subst, inl, inr, arith}
+use Rattle.std.proofs.Common.{◌≡◌, ◌≤◌, true, [], ◌∷◌, ◌++◌, refl, subst, inl, arith}
 use Rattle.std.proofs.lemmas.Result.{err_from_is_err_and}
-use Rattle.terms.specs.Fitting.{cells_of}
 use Rattle.terms.specs.Proper.{RowCells}
 use Rattle.serial.specs.Rights.{Change.written}
-use Rattle.manager.specs.Book.{Fixed, book_of}
 use Rattle.ledger.specs.Covering.{Covered}
-use Rattle.manager.specs.Looking.{HasPlace, Changed}
-use Rattle.ledger.proofs.Rows.{storable}
-use Rattle.manager.proofs.Sounds.{sound_changed, fixed_sound, moved_sound}
+use Rattle.manager.specs.declared.fault.ManagerFault.TheVariants.{Count}
+use Rattle.manager.specs.Book.{book_of}
+use Rattle.manager.specs.Checks.{Answers, unless}
+use Rattle.manager.specs.Looking.{Changed, enter_rules, row_checks}
+use Rattle.manager.proofs.Checking.{answers_after, passed_both, refused_early, refused_late}
 use Rattle.manager.proofs.state.Manager.write.Goals as goal
 
 pub returns-in_err-row : goal.returns-in_err-row
 returns-in_err-row g c =
-    let p = err_from_is_err_and c.from_residual-in_err-row.result c.from_residual-in_err-row.ensures.1 in
+    let m = c.args.self.now in
+    let sig = m.signature.arities in
+    let M = g.K.Kind.means m.kind in
+    let b = book_of m c.args.memory.now in
+    let t = c.args.transaction in
+    let row = c.args.cells.now in
+    let p = err_from_is_err_and c.from_residual.result c.from_residual.ensures.1 in
     rw (p.1, p.2) (record {
-      answers = (inr (c.in_ok-check_sizes.ensures, inr (c.in_ok-check_open.ensures, inl c.in_err-row.ensures)), refl);
+      answers = (refused_early (row_checks sig M c.args.memory.now b t row) (unless Count (c.args.count ≤ 999999) ∷ enter_rules sig M b t row) _ c.in_err-row.ensures.0, refl);
       blank = refl;
       well = c.requires;
       fixed = record { signature = refl; kind = refl };
       sizes = λ z. z;
     })
 
-pub returns-then-not-is_covered : goal.returns-then-not-is_covered
-returns-then-not-is_covered g c =
+pub returns-in_default : goal.returns-in_default
+returns-in_default g c =
     let m = c.args.self.now in
     let sig = m.signature.arities in
     let M = g.K.Kind.means m.kind in
     let b = book_of m c.args.memory.now in
-    let read = c.in_ok-row.ensures in
-    let few = c.in-Some.count.few in
-    let same = c.in-Some.ensures in
-    let small : c.args.count ≤ 999999 = omega arith in
+    let t = c.args.transaction in
+    let row = c.args.cells.now in
+    let large = c.in_default.ensures in
     record {
-      answers = (
-        inr (
-          c.in_ok-check_sizes.ensures,
-          inr (
-            c.in_ok-check_open.ensures,
-            inr (
-              read.1,
-              inr (
-                small,
-                inl (refl, λ x. c.if-not-is_covered.ensures.answer (subst (λ q. Covered sig M c.args.transaction q true b.reservations) (sym read.0) x)),
-              ),
-            ),
-          ),
-        ),
-        refl,
-      );
-      blank = c.is_covered.ensures.blank;
+      answers = (refused_late (row_checks sig M c.args.memory.now b t row) (unless Count (c.args.count ≤ 999999) ∷ enter_rules sig M b t row) Count c.in_ok-row.ensures.0 (inl (refl, λ small. omega arith)), refl);
+      blank = refl;
       well = c.requires;
       fixed = record { signature = refl; kind = refl };
       sizes = λ z. z;
     }
 
-pub key_of-key-requires : goal.key_of-key-requires
-key_of-key-requires g c =
+pub enter-requires : goal.enter-requires
+enter-requires g c =
     let m = c.args.self.now in
-    let sig = m.signature.arities in
-    let M = g.K.Kind.means m.kind in
-    let read = c.in_ok-row.ensures in
-    storable sig M (cells_of c.in_ok-row.row) (g.met.K.Kind.sound m.kind) (subst (RowCells sig M) (sym read.0) read.1)
-
-pub returns-then-not-set_change : goal.returns-then-not-set_change
-returns-then-not-set_change g c =
-    let m = c.args.self.now in
-    let x = c.args.memory.now in
-    let sig = m.signature.arities in
-    let M = g.K.Kind.means m.kind in
-    let b = book_of m x in
-    let read = c.in_ok-row.ensures in
-    let key = c.key_of-key.ensures ∙ read.0 in
-    let no = c.if-not-set_change.ensures.answer in
-    let f : Fixed m c.set_change.new.self = record { signature = c.set_change.ensures.fixed.signature; kind = c.set_change.ensures.fixed.kind } in
-    let z = c.in_ok-check_sizes.ensures in
-    let few = c.in-Some.count.few in
-    let same = c.in-Some.ensures in
-    let small : c.args.count ≤ 999999 = omega arith in
+    let p = c.in_ok-row.ensures in
     record {
-      answers = (
-        inr (
-          z,
-          inr (
-            c.in_ok-check_open.ensures,
-            inr (
-              read.1,
-              inr (
-                small,
-                inr (
-                  subst (λ q. Covered sig M c.args.transaction q true b.reservations) read.0 c.if-not-is_covered.ensures.answer,
-                  inl (refl, λ h. no.0 (subst (λ q. HasPlace c.args.transaction q b) (sym key) h)),
-                ),
-              ),
-            ),
-          ),
-        ),
-        no.1,
-      );
-      blank = c.is_covered.ensures.blank;
-      well = λ _. moved_sound g.K.Kind.means m c.set_change.new.self x c.set_change.new.memory f no.1 (c.requires z);
-      fixed = record { signature = f.signature; kind = f.kind };
-      sizes = c.set_change.ensures.sizes;
+      sizes = p.0.0;
+      well = c.requires;
+      row = subst (RowCells m.signature.arities (g.K.Kind.means m.kind)) (mathlib.Core.Path.sym p.1) p.0.1.1.0;
+      blank = refl;
     }
 
 pub returns : goal.returns
 returns g c =
     let m = c.args.self.now in
-    let x = c.args.memory.now in
     let sig = m.signature.arities in
     let M = g.K.Kind.means m.kind in
+    let x = c.args.memory.now in
     let b = book_of m x in
-    let b' = book_of c.set_change.new.self c.set_change.new.memory in
-    let read = c.in_ok-row.ensures in
-    let key = c.key_of-key.ensures ∙ read.0 in
-    let yes = c.if-not-set_change.ensures.answer in
-    let f : Fixed m c.set_change.new.self = record { signature = c.set_change.ensures.fixed.signature; kind = c.set_change.ensures.fixed.kind } in
-    let z = c.in_ok-check_sizes.ensures in
+    let b' = book_of c.enter.new.self c.enter.new.memory in
+    let t = c.args.transaction in
+    let row = c.args.cells.now in
+    let p = c.in_ok-row.ensures in
     let few = c.in-Some.count.few in
     let same = c.in-Some.ensures in
     let small : c.args.count ≤ 999999 = omega arith in
-    let changed : Changed c.args.transaction c.args.cells.now (written c.args.count) b b' =
-    subst (λ k. Changed c.args.transaction c.args.cells.now (written k) b b') c.in-Some.ensures (subst (λ q. Changed c.args.transaction q (written c.in-Some.count.value) b b') key yes.1) in
+    let entered = subst (λ q. Answers (enter_rules sig M b t q) (λ _. Changed t q (written c.in-Some.count.value) b b') (λ _. b' ≡ b) c.enter.result) p.1 c.enter.ensures.answers in
     record {
-      answers = (
-        (
-          z,
-          (
-            c.in_ok-check_open.ensures,
-            (
-              read.1,
-              (
-                small,
-                (
-                  subst (λ q. Covered sig M c.args.transaction q true b.reservations) read.0 c.if-not-is_covered.ensures.answer,
-                  (subst (λ q. HasPlace c.args.transaction q b) key yes.0, tt),
-                ),
-              ),
-            ),
-          ),
-        ),
-        changed,
-      );
-      blank = c.is_covered.ensures.blank;
-      well = λ _. fixed_sound g.K.Kind.means m c.set_change.new.self b' f (sound_changed sig M b b' (c.requires z) c.args.transaction c.args.cells.now (written c.args.count) read.1 changed);
-      fixed = record { signature = f.signature; kind = f.kind };
-      sizes = c.set_change.ensures.sizes;
+      answers = answers_after (row_checks sig M x b t row ++ unless Count (c.args.count ≤ 999999) ∷ []) (enter_rules sig M b t row) (λ _. Changed t row (written c.args.count) b b') (λ _. b' ≡ b) c.enter.result
+          (passed_both (row_checks sig M x b t row) (unless Count (c.args.count ≤ 999999) ∷ []) p.0 (small, tt))
+          (subst (λ k. Answers (enter_rules sig M b t row) (λ _. Changed t row (written k) b b') (λ _. b' ≡ b) c.enter.result) same entered);
+      blank = c.enter.ensures.blank;
+      well = c.enter.ensures.well;
+      fixed = c.enter.ensures.fixed;
+      sizes = c.enter.ensures.sizes;
     }

@@ -1,0 +1,1 @@
+use Rattle.manager.proofs.state.Manager.read_row.Goals as goal
