@@ -1,4 +1,6 @@
 // The entries of the rolls, each with the transaction that it is of.
+ghost use Rattle.ledger.specs.Words.{RightNamed};
+
 use rolls::entry::Owned;
 use stores::count::Count;
 use terms::pattern::Pattern;
@@ -15,6 +17,24 @@ pub struct Transaction {
 pub enum Right {
     Read,
     Write,
+}
+
+// A letter that names no right.
+#[derive(Clone, Copy, PartialEq, Eq, Debug)]
+pub struct UnknownRight;
+
+impl TryFrom<u8> for Right {
+    type Error = UnknownRight;
+
+    ghost try_from_gives = { RightNamed };
+
+    fn try_from(letter: u8) -> Result<Right, UnknownRight> {
+        match letter {
+            b'R' => Ok(Right::Read),
+            b'W' => Ok(Right::Write),
+            _ => Err(UnknownRight),
+        }
+    }
 }
 
 #[derive(Clone, Copy)]

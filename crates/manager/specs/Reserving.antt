@@ -14,20 +14,11 @@ use Rattle.ledger.specs.declared.entry.Right.{Right as Rightᵗ}
 use Rattle.manager.specs.declared.fault.ManagerFault.{ManagerFault}
 use Rattle.manager.specs.declared.fault.ManagerFault.TheVariants.{Pattern, Store, Planner, TransactionsFull, NumbersSpent, NotOpen, Right, ReservationsFull, NoneFits, NotOwn, Count, NoneWrites, ChangesFull, Conflict}
 use Rattle.manager.specs.declared.memory.Memory.{Memory}
-use Rattle.ledger.specs.Words.{right_of}
+use Rattle.ledger.specs.Words.{NamesRight, right_of}
 use Rattle.manager.specs.Book.{Book}
 use Rattle.manager.specs.Checks.{Check, unless}
 use Rattle.manager.specs.Ending.{sizes, is_open}
 use Rattle.ledger.specs.Clashes.{Clashing, Shown, request}
-
--- the letter names a right
-abbrev pub NamesRight : ℕ → Type 0
-NamesRight letter = (w : rights.Right) × (letter ≡ letter_of w)
-
--- a right by its letter, or 14
-abbrev pub RightRead : ℕ → Result Rightᵗ ManagerFault → Type 0
-RightRead letter (Ok w) = letter ≡ letter_of (right_of w)
-RightRead letter (Err f) = (f ≡ Right) × (NamesRight letter → ⊥)
 
 -- the pattern is proper, or its first fault is named (20 to 23)
 abbrev pub proper_pattern : List ℕ → Meaning → Description → Check

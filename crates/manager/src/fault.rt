@@ -1,8 +1,9 @@
 // What the manager refuses.
 ghost use Rattle.std.specs.Prelude.{◌≡◌};
 ghost use Rattle.manager.specs.Faults.{manager_refusal};
-ghost use Rattle.manager.specs.declared.fault.ManagerFault.TheVariants.{Pattern as OfPattern, Store as OfStore};
+ghost use Rattle.manager.specs.declared.fault.ManagerFault.TheVariants.{Pattern as OfPattern, Right as OfRight, Store as OfStore};
 
+use ledger::entry::UnknownRight;
 use refusals::{Fault, Layer, Refusal};
 use stores::fault::StoreFault;
 use terms::fault::PatternFault;
@@ -44,6 +45,14 @@ impl From<PatternFault> for ManagerFault {
 
     fn from(fault: PatternFault) -> ManagerFault {
         ManagerFault::Pattern(fault)
+    }
+}
+
+impl From<UnknownRight> for ManagerFault {
+    ghost from_gives = { λ _ r. r ≡ OfRight };
+
+    fn from(_unknown: UnknownRight) -> ManagerFault {
+        ManagerFault::Right
     }
 }
 

@@ -9,7 +9,7 @@ ghost use Rattle.ledger.specs.Words.{right_of};
 ghost use Rattle.manager.specs.Book.{Fixed, Sizes, Well, book_of};
 ghost use Rattle.manager.specs.Checks.{Answers};
 ghost use Rattle.ledger.specs.Clashes.{Clashing, FirstClash, request};
-ghost use Rattle.manager.specs.Reserving.{Conflicted, Reserved, RightRead, by_conflict, reserve_checks};
+ghost use Rattle.manager.specs.Reserving.{Conflicted, Reserved, by_conflict, reserve_checks};
 
 use crate::check::check_sizes;
 use crate::fault::ManagerFault;
@@ -22,17 +22,6 @@ use ledger::entry::{Reservation, Right};
 use terms::cell::{BLANK, Cell};
 use terms::constraint::Constraint;
 use terms::pattern::Pattern;
-
-// The right that a letter names.
-fn read_right(letter: u8) -> Result<Right, ManagerFault>
-    ensures { RightRead letter result }
-{
-    match letter {
-        b'R' => Ok(Right::Read),
-        b'W' => Ok(Right::Write),
-        _ => Err(ManagerFault::Right),
-    }
-}
 
 impl<K: Kind> Manager<K> {
     fn own_clash(
@@ -83,7 +72,7 @@ impl<K: Kind> Manager<K> {
         *sheet = [BLANK; 16];
         check_sizes(memory)?;
         self.check_open(memory, transaction)?;
-        let right = read_right(right)?;
+        let right = Right::try_from(right)?;
         let pattern = Pattern::read(&self.signature, &self.kind, cells, constraints)?;
         if self.reservations.len() >= 64 {
             return Err(ManagerFault::ReservationsFull);
