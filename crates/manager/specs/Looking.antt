@@ -1,11 +1,9 @@
 -- Look, write and strike: their checks in order, and what they do.
-use Rattle.std.specs.Prelude.{◌≡◌, ℕ, ◌≤◌, true, false, List, [], ◌∷◌, map, length, is_some, Ok, Err, Result, ◌≢◌}
+use Rattle.std.specs.Prelude.{◌≡◌, ℕ, ◌≤◌, true, false, List, [], ◌∷◌, map, length, is_some, ◌≢◌}
 use Rattle.kinds.specs.Meaning.{Meaning}
 use Rattle.maps.specs.Maps.{In}
 use Rattle.terms.specs.declared.cell.Cell.{Cell}
 use Rattle.terms.specs.declared.fault.PatternFault.{PatternFault}
-use Rattle.terms.specs.declared.row.Row.{Row}
-use Rattle.terms.specs.Fitting as fitting
 use Rattle.terms.specs.Proper.{RowCells}
 use Rattle.terms.specs.Reading.{CellsRefused}
 use Rattle.terms.specs.Fitting.{cells_of}
@@ -14,7 +12,6 @@ use Rattle.serial.specs.Rights.{Change}
 use Rattle.serial.specs.Machine.{pending_for, enter}
 use Rattle.ledger.specs.declared.entry.PendingChange.{PendingChange}
 use Rattle.ledger.specs.Covering.{Covered}
-use Rattle.manager.specs.declared.fault.ManagerFault.{ManagerFault}
 use Rattle.manager.specs.declared.fault.ManagerFault.TheVariants.{Pattern, NoneFits, Count, NoneWrites, ChangesFull}
 use Rattle.manager.specs.declared.memory.Memory.{Memory}
 use Rattle.ledger.specs.Words.{pending_of}

@@ -1,5 +1,5 @@
 -- Reserve: its checks in order, and what it does.
-use Rattle.std.specs.Prelude.{◌≡◌, ℕ, suc, ◌<◌, min, ◌⊎◌, List, [], ◌∷◌, ◌++◌, length, take, Ok, Err, Result, slice_index_or}
+use Rattle.std.specs.Prelude.{◌≡◌, ℕ, suc, ◌<◌, min, ◌⊎◌, List, [], ◌∷◌, ◌++◌, length, take, slice_index_or}
 use Rattle.kinds.specs.Meaning.{Meaning}
 use Rattle.maps.specs.Maps.{In}
 use Rattle.terms.specs.declared.fault.PatternFault.{PatternFault}
@@ -10,7 +10,6 @@ use Rattle.compare.specs.declared.sample.Sample.{Sample}
 use Rattle.serial.specs.Rights as rights
 use Rattle.serial.specs.Rights.{letter_of}
 use Rattle.ledger.specs.declared.entry.Reservation.{Reservation}
-use Rattle.ledger.specs.declared.entry.Right.{Right as Rightᵗ}
 use Rattle.manager.specs.declared.fault.ManagerFault.{ManagerFault}
 use Rattle.manager.specs.declared.fault.ManagerFault.TheVariants.{Pattern, Store, Planner, TransactionsFull, NumbersSpent, NotOpen, Right, ReservationsFull, NoneFits, NotOwn, Count, NoneWrites, ChangesFull, Conflict}
 use Rattle.manager.specs.declared.memory.Memory.{Memory}

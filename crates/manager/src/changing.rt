@@ -25,9 +25,9 @@ use ledger::changes::{change_for, place_of};
 use ledger::entry::PendingChange;
 use ledger::fitting::covered;
 use stores::count::Count;
-use terms::row::Row;
 use stores::store::Store;
 use terms::cell::{BLANK, Cell};
+use terms::row::Row;
 use terms::signature::Signature;
 
 impl<K: Kind> Manager<K> {

@@ -18,7 +18,7 @@ use Rattle.ledger.specs.Words.{language, grant_of, pending_of}
 use Rattle.manager.specs.Book.{Book, book_of, state_of, Fixed, Sizes, Well}
 use Rattle.runs.specs.Calls.{Reply, asked_by, told, says}
 use Rattle.runs.specs.Runs.{Exchange, Answered, Followed, Ran, present}
-use Rattle.manager.specs.Calls.{Made}
+use Rattle.manager.specs.New.{Made}
 use Rattle.manager.proofs.Sounds.{sound_fresh}
 use Rattle.runs.proofs.Stepping.{goes}
 

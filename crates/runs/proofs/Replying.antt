@@ -1,11 +1,12 @@
 -- Past the check of the sizes, a call's contract is its part of a run.
-use Rattle.std.proofs.Common.{◌≡◌, ℕ, List, ◌∷◌, Ok, Err, Result, sym, subst, ⊎_elim}
+use Rattle.std.proofs.Common.{◌≡◌, ℕ, List, ◌∷◌, Ok, Err, MatchResult, Result, sym, subst, ⊎_elim}
 use Rattle.kinds.specs.Meaning.{Meaning}
 use Rattle.maps.specs.Maps.{Map}
 use Rattle.terms.specs.declared.cell.Cell.{Cell}
 use Rattle.compare.specs.declared.sample.Sample.{Sample}
 use Rattle.runs.specs.declared.call.Call.{Call}
 use Rattle.runs.specs.declared.call.Answer.{Answer}
+use Rattle.runs.specs.declared.call.Answer.TheVariants.{Refused}
 use Rattle.manager.specs.declared.fault.ManagerFault.{ManagerFault}
 use Rattle.manager.specs.declared.fault.ManagerFault.TheVariants.{Pattern, Store, Planner, TransactionsFull, NumbersSpent, NotOpen, Right, ReservationsFull, NoneFits, NotOwn, Count, NoneWrites, ChangesFull, Conflict}
 use Rattle.manager.specs.declared.memory.Memory.{Memory}
@@ -19,6 +20,12 @@ pub replies : {A : Type 0} (say : A → Answer) (cs : List Check) (G G' : A → 
     → Sizes x → a ≡ answer_of say r → ((v : A) → G v → G' v) → ((f : ManagerFault) → S f → S' f) → Answers (sizes x ∷ cs) G S r → Replies say cs G' S' a
 replies say cs G G' S S' x (Ok v) a z e g s p = (Ok v, e, (p.0.1, g v p.1))
 replies say cs G G' S S' x (Err f) a z e g s p = (Err f, e, (⊎_elim (λ q. absurd (q.1 z)) (λ q. q.1) p.0, s f p.1))
+
+-- what is told of a call's result
+pub told_is : {A : Type 0} (say : A → Answer) (Post : A → Type 0) (r : Result A ManagerFault) (a : Answer) → ((v : A) → Post v → a ≡ say v)
+    → MatchResult r Post (λ f. a ≡ Refused f) → a ≡ answer_of say r
+told_is say Post (Ok v) a h m = h v m
+told_is say Post (Err f) a h m = m
 
 -- what holds of a conflict, and of any other fault, may be said more fully
 pub by_conflict_map : (C C' : ℕ → ℕ → Type 0) (P P' : Type 0) → ((t n : ℕ) → C t n → C' t n) → (P → P') → (f : ManagerFault) → by_conflict C P f → by_conflict C' P' f

@@ -21,7 +21,7 @@ use Rattle.manager.specs.Book.{Book}
 use Rattle.manager.specs.Checks.{Check, Answers}
 use Rattle.runs.specs.Calls.{asked_by, told, says}
 use Rattle.manager.specs.New.{fresh}
-use Rattle.manager.specs.Calls.{new_checks}
+use Rattle.manager.specs.New.{new_checks}
 use Rattle.manager.specs.Ending.{begin_rules, Begun, commit_rules, Committed, abandon_rules, Abandoned, own_map}
 use Rattle.manager.specs.Looking.{look_rules, write_rules, strike_rules, Changed}
 use Rattle.manager.specs.Reserving.{reserve_rules, Reserved, Conflicted, by_conflict}

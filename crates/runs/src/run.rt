@@ -1,8 +1,8 @@
 // Calls as they come from outside, over a new manager.
-ghost use Rattle.std.specs.Prelude.{◌≡◌};
+ghost use Rattle.std.specs.Prelude.{◌≡◌, MatchResult};
 ghost use Rattle.manager.specs.Book.{Fixed, Sizes, Well, book_of};
-ghost use Rattle.runs.specs.Runs.{Answered, RunMade, answer_of};
-ghost use Rattle.runs.specs.declared.call.Answer.TheVariants.{Done as DoneAnswer, Figures as FiguresAnswer, Found as FoundAnswer, Number as NumberAnswer, Tally as TallyAnswer};
+ghost use Rattle.runs.specs.Runs.{Answered, RunMade};
+ghost use Rattle.runs.specs.declared.call.Answer.TheVariants.{Refused};
 ghost use Rattle.unification.specs.Sheets.{Blank};
 
 use crate::call::{Answer, Call};
@@ -11,53 +11,15 @@ use kinds::kind::Kind;
 use manager::fault::ManagerFault;
 use manager::memory::Memory;
 use manager::state::Manager;
-use stores::count::Count;
 use stores::store::Store;
 use terms::cell::{BLANK, Cell};
 
-fn numbered(res: Result<u32, ManagerFault>) -> Answer
-    ensures { result ≡ answer_of NumberAnswer res }
+// What is said of a granted call's result, or the fault.
+fn told<A, F: FnOnce(A) -> Answer>(granted: Result<A, ManagerFault>, say: F) -> Answer
+    requires { F.IsAlwaysCallable say }
+    ensures { MatchResult granted (λ v. F.post say v result) (λ f. result ≡ Refused f) }
 {
-    match res {
-        Ok(number) => Answer::Number(number),
-        Err(fault) => Answer::Refused(fault),
-    }
-}
-
-fn found(res: Result<Option<Count>, ManagerFault>) -> Answer
-    ensures { result ≡ answer_of FoundAnswer res }
-{
-    match res {
-        Ok(count) => Answer::Found(count),
-        Err(fault) => Answer::Refused(fault),
-    }
-}
-
-fn figured(res: Result<(u32, u64), ManagerFault>) -> Answer
-    ensures { result ≡ answer_of (λ f. FiguresAnswer f.0 f.1) res }
-{
-    match res {
-        Ok((rows, total)) => Answer::Figures(rows, total),
-        Err(fault) => Answer::Refused(fault),
-    }
-}
-
-fn entered(res: Result<(), ManagerFault>) -> Answer
-    ensures { result ≡ answer_of (λ _. DoneAnswer) res }
-{
-    match res {
-        Ok(()) => Answer::Done,
-        Err(fault) => Answer::Refused(fault),
-    }
-}
-
-fn tallied(res: Result<u32, ManagerFault>) -> Answer
-    ensures { result ≡ answer_of TallyAnswer res }
-{
-    match res {
-        Ok(number) => Answer::Tally(number),
-        Err(fault) => Answer::Refused(fault),
-    }
+    granted.map_or_else(Answer::Refused, say)
 }
 
 // One call, answered.
@@ -80,39 +42,60 @@ fn answer<K: Kind, S: Store>(
     ensures sizes { Sizes memory.new }
 {
     match call {
-        Call::Begin { planner } => numbered(manager.begin(memory, *planner)),
+        Call::Begin { planner } => told(manager.begin(memory, *planner), Answer::Number),
         Call::Reserve {
             transaction,
             right,
             cells,
             constraints,
-        } => numbered(manager.reserve(
-            memory,
-            *transaction,
-            *right,
-            cells,
-            constraints,
-            sheet,
-            buffer,
-        )),
+        } => told(
+            manager.reserve(
+                memory,
+                *transaction,
+                *right,
+                cells,
+                constraints,
+                sheet,
+                buffer,
+            ),
+            Answer::Number,
+        ),
         Call::Look { transaction, cells } => {
-            found(manager.look(memory, store, *transaction, cells, sheet))
+            told(
+                manager.look(memory, store, *transaction, cells, sheet),
+                Answer::Found,
+            )
         }
         Call::Survey {
             transaction,
             reservation,
-        } => figured(manager.survey(memory, store, *transaction, *reservation, sheet)),
+        } => told(
+            manager.survey(memory, store, *transaction, *reservation, sheet),
+            |(rows, total)| Answer::Figures(rows, total),
+        ),
         Call::Write {
             transaction,
             cells,
             count,
-        } => entered(manager.write(memory, *transaction, cells, *count, sheet)),
+        } => told(
+            manager.write(memory, *transaction, cells, *count, sheet),
+            |()| Answer::Done,
+        ),
         Call::Strike { transaction, cells } => {
-            entered(manager.strike(memory, *transaction, cells, sheet))
+            told(
+                manager.strike(memory, *transaction, cells, sheet),
+                |()| Answer::Done,
+            )
         }
-        Call::Commit { transaction } => numbered(manager.commit(memory, store, *transaction)),
-        Call::Abandon { transaction } => numbered(manager.abandon(memory, *transaction)),
-        Call::Tally => tallied(manager.tally(memory)),
+        Call::Commit { transaction } => told(
+            manager.commit(memory, store, *transaction),
+            Answer::Number,
+        ),
+        Call::Abandon { transaction } => told(
+            manager.abandon(memory, *transaction),
+            Answer::Number,
+        ),
+        Call::Tally => told(manager.tally(memory), Answer::Tally),
     }
 }
 
@@ -136,15 +119,8 @@ pub fn run<K: Kind + Drop, S: Store>(
     *sheet = [BLANK; 16];
     let mut manager = Manager::new(kind, arities, memory)?;
     let n = calls.len().min(answers.len()).min(buffers.len());
-    for i in 0..n {
-        answers[i] = answer(
-            &mut manager,
-            memory,
-            store,
-            sheet,
-            &mut buffers[i],
-            &calls[i],
-        );
+    for (i, call) in calls[..n].iter().enumerate() {
+        answers[i] = answer(&mut manager, memory, store, sheet, &mut buffers[i], call);
     }
     Ok(n)
 }

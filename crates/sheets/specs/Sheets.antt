@@ -6,7 +6,7 @@ use Rattle.terms.specs.declared.cell.Cell.{Cell}
 use Rattle.compare.specs.declared.sample.Sample.{Sample}
 use Rattle.manager.specs.declared.memory.Memory.{Memory}
 use Rattle.manager.specs.Checks.{Passed, Refused}
-use Rattle.manager.specs.Calls.{new_checks}
+use Rattle.manager.specs.New.{new_checks}
 use Rattle.runs.specs.declared.call.Call.{Call}
 use Rattle.runs.specs.declared.call.Answer.{Answer}
 use Rattle.runs.specs.Calls.{asked_by}

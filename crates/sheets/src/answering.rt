@@ -1,7 +1,7 @@
 // A whole sheet, answered.
 ghost use Rattle.std.specs.Prelude.{◌≡◌, IfOk, vec_items};
 ghost use Rattle.manager.specs.Checks.{Answers};
-ghost use Rattle.manager.specs.Calls.{new_checks};
+ghost use Rattle.manager.specs.New.{new_checks};
 ghost use Rattle.sheets.specs.Sheets.{AnsweredSheet, RanAll, SheetDone};
 
 use crate::calls::calls_of;

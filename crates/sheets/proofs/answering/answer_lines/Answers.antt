@@ -2,7 +2,7 @@ use Rattle.std.proofs.Common.{◌≡◌, map, vec_items, Result, ap, ◌∙◌, 
 use Rattle.std.specs.Option.{option_map}
 use Rattle.manager.specs.declared.fault.ManagerFault.{ManagerFault}
 use Rattle.manager.specs.Checks.{Answers}
-use Rattle.manager.specs.Calls.{new_checks}
+use Rattle.manager.specs.New.{new_checks}
 use Rattle.runs.specs.Runs.{present}
 use Rattle.requests.specs.Layout.{asked_of}
 use Rattle.sheets.specs.declared.answering.Run.{Run}

@@ -44,12 +44,12 @@ returns g c =
   where
     sound_after : (r : Result (Unit {0}) ManagerFault)
         → Answers (unless ChangesFull (HasPlace c.args.transaction (cells_of c.args.row.now) (book_of c.args.self.now c.args.memory.now)) ∷ [])
-            (λ _. Changed c.args.transaction (cells_of c.args.row.now) (change_of c.args.change) (book_of c.args.self.now c.args.memory.now) (book_of c.set_change.new.self c.set_change.new.memory))
-            (λ _. book_of c.set_change.new.self c.set_change.new.memory ≡ book_of c.args.self.now c.args.memory.now) r
+        (λ _. Changed c.args.transaction (cells_of c.args.row.now) (change_of c.args.change) (book_of c.args.self.now c.args.memory.now) (book_of c.set_change.new.self c.set_change.new.memory))
+        (λ _. book_of c.set_change.new.self c.set_change.new.memory ≡ book_of c.args.self.now c.args.memory.now) r
         → Sound c.set_change.new.self.signature.arities (g.K.Kind.means c.set_change.new.self.kind) (book_of c.set_change.new.self c.set_change.new.memory)
     sound_after (Ok u) q =
         fixed_sound g.K.Kind.means c.args.self.now c.set_change.new.self (book_of c.set_change.new.self c.set_change.new.memory) c.set_change.ensures.fixed
-            (sound_changed c.args.self.now.signature.arities (g.K.Kind.means c.args.self.now.kind) (book_of c.args.self.now c.args.memory.now) (book_of c.set_change.new.self c.set_change.new.memory)
-                (c.requires.well c.requires.sizes) c.args.transaction (cells_of c.args.row.now) (change_of c.args.change) c.requires.row q.1)
+        (sound_changed c.args.self.now.signature.arities (g.K.Kind.means c.args.self.now.kind) (book_of c.args.self.now c.args.memory.now) (book_of c.set_change.new.self c.set_change.new.memory)
+        (c.requires.well c.requires.sizes) c.args.transaction (cells_of c.args.row.now) (change_of c.args.change) c.requires.row q.1)
     sound_after (Err e) q =
         moved_sound g.K.Kind.means c.args.self.now c.set_change.new.self c.args.memory.now c.set_change.new.memory c.set_change.ensures.fixed q.1 (c.requires.well c.requires.sizes)

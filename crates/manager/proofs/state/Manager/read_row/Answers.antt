@@ -1,1 +1,0 @@
-use Rattle.manager.proofs.state.Manager.read_row.Goals as goal

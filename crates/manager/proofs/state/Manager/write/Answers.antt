@@ -1,8 +1,7 @@
-use Rattle.std.proofs.Common.{◌≡◌, ◌≤◌, true, [], ◌∷◌, ◌++◌, refl, subst, inl, arith}
+use Rattle.std.proofs.Common.{◌≡◌, ◌≤◌, [], ◌∷◌, ◌++◌, refl, subst, inl, arith}
 use Rattle.std.proofs.lemmas.Result.{err_from_is_err_and}
 use Rattle.terms.specs.Proper.{RowCells}
 use Rattle.serial.specs.Rights.{Change.written}
-use Rattle.ledger.specs.Covering.{Covered}
 use Rattle.manager.specs.declared.fault.ManagerFault.TheVariants.{Count}
 use Rattle.manager.specs.Book.{book_of}
 use Rattle.manager.specs.Checks.{Answers, unless}
