@@ -95,6 +95,6 @@ pub fn fits<K: Kind>(
     ensures answer { Decides result (Fits signature.now.arities (K.Kind.means kind.now) (cells_of row.now) (described pattern.now)) }
     ensures blank { Blank sheet.new }
 {
-    let alone = Pattern::from_row(row);
+    let alone = Pattern::from(row);
     overlap(kind, signature, &alone, pattern, sheet).is_some()
 }

@@ -11,7 +11,7 @@ overlap-requires g c =
     let sig = c.args.signature.now.arities in
     let M = g.K.Kind.means c.args.kind.now in
     record {
-      left = subst (ProperPattern sig M) (sym c.from_row-alone.ensures) (alone_proper sig M (cells_of c.args.row.now) c.requires.row);
+      left = subst (ProperPattern sig M) (sym c.from-alone.ensures) (alone_proper sig M (cells_of c.args.row.now) c.requires.row);
       right = c.requires.pattern;
     }
 
@@ -21,7 +21,7 @@ returns g c =
     let M = g.K.Kind.means c.args.kind.now in
     let row = cells_of c.args.row.now in
     let p = described c.args.pattern.now in
-    let told = subst (λ (d : Description). MatchOption c.overlap.result (Overlap sig M d p → ⊥) (λ a. CommonPart sig M d p a)) c.from_row-alone.ensures c.overlap.ensures.answer in
+    let told = subst (λ (d : Description). MatchOption c.overlap.result (Overlap sig M d p → ⊥) (λ a. CommonPart sig M d p a)) c.from-alone.ensures c.overlap.ensures.answer in
     record {
       answer = subst (λ (b : Bool). Decides b (Fits sig M row p)) (sym c.is_some.ensures)
           (fits_told sig M row p c.args.signature.now.nought c.requires.row c.overlap.result told);
