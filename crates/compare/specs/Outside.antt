@@ -1,5 +1,5 @@
 -- What a comparison of two written patterns answers, and what it leaves in the buffer of bindings.
-use Rattle.std.specs.Prelude.{◌≡◌, ℕ, ◌⊎◌, List, Ok, Err, Option, Result}
+use Rattle.std.specs.Prelude.{◌≡◌, ℕ, ◌⊎◌, List, Ok, Err, Some, None, Option, Result}
 use Rattle.kinds.specs.Meaning.{Meaning}
 use Rattle.terms.specs.declared.fault.PatternFault.{PatternFault}
 use Rattle.terms.specs.Fitting.{Description}
@@ -7,8 +7,7 @@ use Rattle.terms.specs.Proper.{Arities, ProperPattern}
 use Rattle.terms.specs.Reading.{SignatureRead, PatternRead}
 use Rattle.unification.specs.Pairs.{Overlap}
 use Rattle.compare.specs.declared.binding.Binding.{Binding}
-use Rattle.compare.specs.declared.outside.Comparison.{Comparison}
-use Rattle.compare.specs.declared.outside.Comparison.TheVariants.{Clash, Overlap as Overlapping}
+use Rattle.compare.specs.declared.sample.Sample.{Sample}
 use Rattle.compare.specs.Answers.{CommonPart}
 
 -- the arities and both patterns are allowed
@@ -25,7 +24,7 @@ Refused ns M left right f =
     ⊎ (Arities ns × ProperPattern ns M left × PatternRead ns M right.cells right.constraints (Err f)))
 
 -- a clash where no row fits both, and else an overlap with its bindings; only an overlap writes the bindings
-abbrev pub Compared : List ℕ → Meaning → Description → Description → List (Option Binding) → List (Option Binding) → Result Comparison PatternFault → Type 0
-Compared ns M left right before behind (Ok Clash) = Accepted ns M left right × (Overlap ns M left right → ⊥) × (behind ≡ before)
-Compared ns M left right before behind (Ok (Overlapping s)) = Accepted ns M left right × CommonPart ns M left right (record { bindings = behind; sample = s })
+abbrev pub Compared : List ℕ → Meaning → Description → Description → List (Option Binding) → List (Option Binding) → Result (Option Sample) PatternFault → Type 0
+Compared ns M left right before behind (Ok None) = Accepted ns M left right × (Overlap ns M left right → ⊥) × (behind ≡ before)
+Compared ns M left right before behind (Ok (Some s)) = Accepted ns M left right × CommonPart ns M left right (record { bindings = behind; sample = s })
 Compared ns M left right before behind (Err f) = Refused ns M left right f × (behind ≡ before)

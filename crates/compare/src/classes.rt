@@ -23,9 +23,8 @@ pub enum Root {
     Term(usize),
 }
 
-fn root_of(signature: &Signature, cells: &[Cell], sheet: &[Cell], x: usize) -> Root
+fn root_of(signature: &Signature, cells: &[Cell], sheet: &[Cell; 16], x: usize) -> Root
     requires good { Good signature.now.arities cells.now }
-    requires long { length sheet.now ≡ 16 }
     requires straight { Straight cells.now sheet.now }
     requires small { x < 16 }
     ensures { RootOf signature.now.arities cells.now sheet.now x result }
@@ -42,9 +41,8 @@ fn root_of(signature: &Signature, cells: &[Cell], sheet: &[Cell], x: usize) -> R
 }
 
 // What each variable stands for.
-pub fn roots_of(signature: &Signature, cells: &[Cell], sheet: &[Cell]) -> [Root; 16]
+pub fn roots_of(signature: &Signature, cells: &[Cell], sheet: &[Cell; 16]) -> [Root; 16]
     requires good { Good signature.now.arities cells.now }
-    requires long { length sheet.now ≡ 16 }
     requires straight { Straight cells.now sheet.now }
     ensures { (x : ℕ) → x < 16 → RootOf signature.now.arities cells.now sheet.now x (root_at result x) }
 {
@@ -63,9 +61,9 @@ pub struct Class {
 }
 
 // The conditions on the variables that stand for the free variable y.
-fn gather(constraints: &[Constraint], roots: &[Root], y: usize) -> Class
+fn gather(constraints: &[Constraint], roots: &[Root; 16], y: usize) -> Class
     requires few { length constraints.now ≤ 16 }
-    requires named { (k : ℕ) → k < length constraints.now → (constraint_at constraints.now k).variable < length roots.now }
+    requires named { (k : ℕ) → k < length constraints.now → (constraint_at constraints.now k).variable < 16 }
     ensures few { result.count ≤ length result.conditions }
     ensures all { take result.count result.conditions ≡ class_conditions roots.now constraints.now y }
 {
@@ -96,12 +94,12 @@ fn meets<K: Kind>(kind: &K, condition: Condition, cell: Cell) -> bool
 pub fn settle<K: Kind>(
     kind: &K,
     cells: &[Cell],
-    roots: &[Root],
+    roots: &[Root; 16],
     constraints: &[Constraint],
 ) -> Option<[Cell; 16]>
     requires few { length constraints.now ≤ 16 }
-    requires named { (k : ℕ) → k < length constraints.now → (constraint_at constraints.now k).variable < length roots.now }
-    requires rooted { (x : ℕ) → x < length roots.now → WithinCells cells.now (root_at roots.now x) }
+    requires named { (k : ℕ) → k < length constraints.now → (constraint_at constraints.now k).variable < 16 }
+    requires rooted { (x : ℕ) → x < 16 → WithinCells cells.now (root_at roots.now x) }
     ensures { MatchOption result (Unmet (K.Kind.means kind.now) cells.now roots.now constraints.now) (λ fills. Settled (K.Kind.means kind.now) cells.now roots.now constraints.now fills (length constraints.now)) }
 {
     let mut fills = [Cell {
@@ -114,10 +112,7 @@ pub fn settle<K: Kind>(
                 let class = gather(constraints, roots, y);
                 let rest = &class.conditions[0..class.count];
                 let value = smallest_value(kind, constraint.condition, rest)?;
-                fills[y] = Cell {
-                    letter: value.letter,
-                    number: value.code,
-                };
+                fills[y] = Cell::from(value);
             }
             Root::Term(place) => {
                 if !meets(kind, constraint.condition, cells[place]) {

@@ -79,9 +79,8 @@ pub struct Leaf {
 }
 
 // A waiting variable that is a leaf.
-fn choose(signature: &Signature, cells: &[Cell], sheet: &[Cell], wait: [bool; 16]) -> Option<Leaf>
+fn choose(signature: &Signature, cells: &[Cell], sheet: &[Cell; 16], wait: [bool; 16]) -> Option<Leaf>
     requires good { Good signature.now.arities cells.now }
-    requires long { length sheet.now ≡ 16 }
     requires bound { Within cells.now sheet.now wait }
     ensures { MatchOption result (Stuck signature.now.arities cells.now sheet.now wait) (λ leaf. IsLeaf signature.now.arities cells.now sheet.now wait leaf) }
 {
@@ -110,9 +109,8 @@ fn count(wait: [bool; 16]) -> usize
 }
 
 // Which variables are bound.
-fn bound_of(cells: &[Cell], sheet: &[Cell]) -> [bool; 16]
+fn bound_of(cells: &[Cell], sheet: &[Cell; 16]) -> [bool; 16]
     requires few { length cells.now ≤ 48 }
-    requires long { length sheet.now ≡ 16 }
     ensures { (x : ℕ) → x < 16 → slice_index_or result x false ≡ nat_lt (entry sheet.now x) (length cells.now) }
 {
     let mut wait = [false; 16];
@@ -127,11 +125,10 @@ fn bound_of(cells: &[Cell], sheet: &[Cell]) -> [bool; 16]
 pub fn order(
     signature: &Signature,
     cells: &[Cell],
-    sheet: &[Cell],
+    sheet: &[Cell; 16],
     left: usize,
 ) -> Option<[Option<Binding>; 16]>
     requires good { Good signature.now.arities cells.now }
-    requires long { length sheet.now ≡ 16 }
     requires straight { Straight cells.now sheet.now }
     ensures { MatchOption result (Unsolved signature.now.arities cells.now sheet.now) (λ out. Ordered signature.now.arities cells.now sheet.now (replacements signature.now.arities cells.now left out) × AllByRecursion (WithinPatterns left (length cells.now - left)) out) }
 {

@@ -20,15 +20,8 @@ pub struct Written<'a> {
     pub constraints: &'a [Constraint],
 }
 
-#[derive(Clone, Copy)]
-pub enum Comparison {
-    // no row fits both
-    Clash,
-    // a sample of the rows that fit both
-    Overlap(Sample),
-}
-
-// Compares two patterns under the arities of the 32 symbols. An overlap writes the bindings; a clash and a refusal leave them.
+// Compares two patterns under the arities of the 32 symbols: a sample of the rows that fit both, none if no row does.
+// An overlap writes the bindings; a clash and a refusal leave them.
 pub fn compare<K: Kind>(
     kind: &K,
     arities: &[u8; 32],
@@ -36,7 +29,7 @@ pub fn compare<K: Kind>(
     right: Written,
     sheet: &mut [Cell; 16],
     bindings: &mut [Option<Binding>; 16],
-) -> Result<Comparison, PatternFault>
+) -> Result<Option<Sample>, PatternFault>
     ensures answer { Compared arities.now (K.Kind.means kind.now) (record { cells = left.entry.cells.now; constraints = left.entry.constraints.now }) (record { cells = right.entry.cells.now; constraints = right.entry.constraints.now }) bindings.old bindings.new result }
     ensures blank { Blank sheet.new }
 {
@@ -44,12 +37,10 @@ pub fn compare<K: Kind>(
     let signature = Signature::new(*arities)?;
     let first = Pattern::read(&signature, kind, left.cells, left.constraints)?;
     let second = Pattern::read(&signature, kind, right.cells, right.constraints)?;
-    match overlap(kind, &signature, &first, &second, guard.sheet) {
-        None => Ok(Comparison::Clash),
-        Some(common) => {
-            let found = common.bindings;
-            *bindings = found;
-            Ok(Comparison::Overlap(common.sample))
-        }
-    }
+    let Some(common) = overlap(kind, &signature, &first, &second, guard.sheet) else {
+        return Ok(None);
+    };
+    let found = common.bindings;
+    *bindings = found;
+    Ok(Some(common.sample))
 }

@@ -16,7 +16,7 @@ use crate::classes::{roots_of, settle};
 use crate::join::join;
 use crate::order::order;
 use crate::sample::{Common, Sample};
-use crate::sheet::{Guard, wipe};
+use crate::sheet::Guard;
 use crate::unify::unify;
 use crate::write::write;
 use kinds::kind::Kind;
@@ -32,13 +32,13 @@ fn finish<K: Kind>(
     kind: &K,
     signature: &Signature,
     cells: &[Cell],
-    sheet: &[Cell],
+    sheet: &[Cell; 16],
     constraints: &[Constraint],
     left: usize,
 ) -> Option<Common>
     requires good { Good signature.now.arities cells.now }
     requires fine { AllByRecursion (Fine (K.Kind.means kind.now) 16) cells.now }
-    requires long { (length sheet.now ≡ 16) × (0 < length cells.now) }
+    requires some { 0 < length cells.now }
     requires straight { Straight cells.now sheet.now }
     requires few { length constraints.now ≤ 16 }
     requires named { (k : ℕ) → k < length constraints.now → (constraint_at constraints.now k).variable < 16 }
@@ -73,7 +73,7 @@ pub fn overlap<K: Kind>(
     let joint = join(left, right);
     let cells = &joint.cells[0..joint.len];
     let constraints = &joint.constraints[0..joint.count];
-    wipe(sheet);
+    *sheet = [BLANK; 16];
     let guard = Guard { sheet };
     if !unify(signature, cells, guard.sheet, 0, joint.left, 1, [false; 16]) {
         return None;

@@ -5,9 +5,9 @@ ghost use Rattle.unification.specs.Sheets.{blank, Blank, entry, entry_for};
 use terms::cell::{BLANK, Cell};
 
 // The place of the term that the variable x is bound to; none if x is free.
-pub fn bound(cells: &[Cell], sheet: &[Cell], x: usize) -> Option<usize>
+pub fn bound(cells: &[Cell], sheet: &[Cell; 16], x: usize) -> Option<usize>
     requires few { length cells.now ≤ 48 }
-    requires within { x < length sheet.now }
+    requires within { x < 16 }
     ensures { MatchOption result (length cells.now ≤ entry sheet.now x) (λ p. (p ≡ entry sheet.now x) × (p < length cells.now)) }
 {
     let found = sheet[x];
@@ -30,15 +30,6 @@ pub fn entry_to(place: usize) -> Cell
     }
 }
 
-// Makes every entry blank.
-pub fn wipe(sheet: &mut [Cell])
-    ensures { sheet.new ≡ replicate (length sheet.old) blank }
-{
-    for slot in sheet.iter_mut() {
-        *slot = BLANK;
-    }
-}
-
 // A loan of the caller's sheet, which is wiped where the loan ends, whatever way it ends.
 pub struct Guard<'a> {
     pub sheet: &'a mut [Cell; 16],
@@ -49,6 +40,6 @@ impl Drop for Guard<'_> {
         ensures { Blank self.exit.0.now }
     {
         let Guard { sheet } = self;
-        wipe(sheet);
+        *sheet = [BLANK; 16];
     }
 }

@@ -19,9 +19,8 @@ pub enum Heads {
 }
 
 // Makes the heads at `p` and `q` meet, neither a bound variable. Of two variables the larger is bound to the smaller.
-fn meet(signature: &Signature, cells: &[Cell], sheet: &mut [Cell], p: usize, q: usize) -> Heads
+fn meet(signature: &Signature, cells: &[Cell], sheet: &mut [Cell; 16], p: usize, q: usize) -> Heads
     requires good { Good signature.now.arities cells.now }
-    requires long { length sheet.old ≡ 16 }
     requires straight { Straight cells.now sheet.old }
     requires left { Rooted cells.now sheet.old p }
     requires right { Rooted cells.now sheet.old q }
@@ -71,14 +70,13 @@ fn opened(cells: &[Cell], i: usize, j: usize) -> usize
 pub fn unify(
     signature: &Signature,
     cells: &[Cell],
-    sheet: &mut [Cell],
+    sheet: &mut [Cell; 16],
     i: usize,
     j: usize,
     n: usize,
     seen: [bool; 16],
 ) -> bool
     requires good { Good signature.now.arities cells.now }
-    requires long { length sheet.old ≡ 16 }
     requires straight { Straight cells.now sheet.old }
     requires left { Begins signature.now.arities n (drop i cells.now) }
     requires right { Begins signature.now.arities n (drop j cells.now) }

@@ -24,9 +24,8 @@ pub fn skip(signature: &Signature, cells: &[Cell], i: usize) -> usize
 }
 
 // The place that the term at `i` stands for: a symbol, a value or a free variable.
-pub fn deref(signature: &Signature, cells: &[Cell], sheet: &[Cell], i: usize) -> usize
+pub fn deref(signature: &Signature, cells: &[Cell], sheet: &[Cell; 16], i: usize) -> usize
     requires good { Good signature.now.arities cells.now }
-    requires long { length sheet.now ≡ 16 }
     requires straight { Straight cells.now sheet.now }
     requires within { i < length cells.now }
     ensures { Derefs signature.now.arities cells.now sheet.now i result }

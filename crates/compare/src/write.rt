@@ -15,15 +15,15 @@ use terms::signature::Signature;
 pub fn write(
     signature: &Signature,
     cells: &[Cell],
-    sheet: &[Cell],
-    fills: &[Cell],
+    sheet: &[Cell; 16],
+    fills: &[Cell; 16],
     i: usize,
     n: usize,
-    row: &mut [Cell],
+    row: &mut [Cell; 12],
     at: usize,
 ) -> usize
     requires good { Good signature.now.arities cells.now }
-    requires long { (length sheet.now ≡ 16) × (length fills.now ≡ 16) × (length row.old ≡ 12) × (at ≤ 12) }
+    requires within { at ≤ 12 }
     requires straight { Straight cells.now sheet.now }
     requires here { Begins signature.now.arities n (drop i cells.now) }
     ensures grows { (at ≤ result) × (result ≤ 13) }

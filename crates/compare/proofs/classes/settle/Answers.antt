@@ -1,4 +1,4 @@
-use Rattle.std.proofs.Common.{ℕ, ◌+◌, ◌-◌, ◌<◌, List, length, take, Option, sym, ◌∙◌, subst, MatchOption}
+use Rattle.std.proofs.Common.{ℕ, ◌+◌, ◌-◌, ◌<◌, List, length, take, set, Option, sym, ap, ◌∙◌, subst, MatchOption}
 use Rattle.terms.specs.declared.cell.Cell.{Cell}
 use Rattle.compare.specs.Roots.{constraint_at}
 use Rattle.compare.specs.Settling.{WithinCells, Unmet, Settled}
@@ -29,7 +29,7 @@ loop-constraint-preserved g c =
       | in-Variable+in_ok-value-in-Variable w ↦
           (let h = w.in_ok-value-in-Variable.ensures in
           let small : w.in-Variable.y < 16 = subst (WithinCells cells) w.in-Variable.is (c.requires.rooted (constraint_at ks i).variable (c.requires.named i c.loop-constraint-test.true)) in
-          subst (λ (fs : List Cell). Settled M cells rs ks fs (i + 1)) (sym w.fills-is)
+          subst (λ (fs : List Cell). Settled M cells rs ks fs (i + 1)) (sym (w.fills-is ∙ ap (set fills w.in-Variable.y) w.from.ensures))
           (settled_class M cells rs ks fills i w.in-Variable.y w.in_ok-value-in-Variable.value.letter w.in_ok-value-in-Variable.value.code
           (take (w.gather-class.result.count - 0) w.gather-class.result.conditions) c.loop-constraint-test.true small w.in-Variable.is (from_start w.gather-class.result.conditions w.gather-class.result.count ∙ w.gather-class.ensures.all) h.0 h.1 c.loop-constraint.invariant))
       | in-Term+else-not-meets w ↦

@@ -1,4 +1,4 @@
-use Rattle.std.proofs.Common.{refl, arith}
+use Rattle.std.proofs.Common.{arith}
 use Rattle.terms.specs.Terms.{apply}
 use Rattle.unification.specs.Fronts.{part}
 use Rattle.compare.specs.Bindings.{replacements}
@@ -18,9 +18,9 @@ returns-in_err-fills g c =
 pub write-len-requires : goal.write-len-requires
 write-len-requires g c = record {
   good = c.requires.good;
-  long = (c.requires.long.0, c.in_ok-fills.ensures.long, refl, omega arith);
+  within = omega arith;
   straight = c.requires.straight;
-  here = c.requires.good.whole 0 c.requires.long.1;
+  here = c.requires.good.whole 0 c.requires.some;
 }
 
 pub returns : goal.returns

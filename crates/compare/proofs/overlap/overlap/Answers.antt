@@ -1,6 +1,6 @@
-use Rattle.std.proofs.Common.{◌≡◌, ℕ, ◌-◌, length, take, replicate, ap, ◌∙◌, arith, rules}
+use Rattle.std.proofs.Common.{◌≡◌, ◌-◌, take, replicate, refl, ◌∙◌, rules}
 use Rattle.terms.specs.Fitting.{described}
-use Rattle.unification.specs.Sheets.{blank, Blank}
+use Rattle.unification.specs.Sheets.{blank}
 use Rattle.unification.specs.Pairs.{pair, both_constraints}
 use Rattle.compare.proofs.Readings.{from_start}
 use Rattle.compare.proofs.Findings.{small_cells, small_constraints, good_both, fine_both, some_cells, starts_left, starts_right, straight_blank, no_clash, few_both, named_both, told}
@@ -22,11 +22,9 @@ unify-requires g c =
     let j = c.join-joint.result in
     let cells = take (j.len - 0) j.cells in
     let is : cells ≡ pair left.cells right.cells = from_start j.cells j.len ∙ c.join-joint.ensures.cells in
-    let blank_sheet : Blank c.wipe.new.sheet = c.wipe.ensures ∙ ap (λ (n : ℕ). replicate n blank) (let e : length c.args.sheet.now ≡ 16 = omega arith in e) in
     record {
       good = good_both sig M left right c.requires.left c.requires.right cells is j.left c.join-joint.ensures.left_cells;
-      long = omega (arith, c.wipe.auto.sheet);
-      straight = straight_blank sig M left right c.requires.left c.requires.right cells is j.left c.join-joint.ensures.left_cells c.wipe.new.sheet blank_sheet;
+      straight = straight_blank sig M left right c.requires.left c.requires.right cells is j.left c.join-joint.ensures.left_cells (replicate 16 blank) refl;
       left = starts_left sig M left right c.requires.left c.requires.right cells is j.left c.join-joint.ensures.left_cells;
       right = starts_right sig M left right c.requires.left c.requires.right cells is j.left c.join-joint.ensures.left_cells;
     }
@@ -40,9 +38,8 @@ returns-then-not-unify g c =
     let j = c.join-joint.result in
     let cells = take (j.len - 0) j.cells in
     let is : cells ≡ pair left.cells right.cells = from_start j.cells j.len ∙ c.join-joint.ensures.cells in
-    let blank_sheet : Blank c.wipe.new.sheet = c.wipe.ensures ∙ ap (λ (n : ℕ). replicate n blank) (let e : length c.args.sheet.now ≡ 16 = omega arith in e) in
     record {
-      answer = no_clash sig M left right c.requires.left c.requires.right cells is j.left c.join-joint.ensures.left_cells c.wipe.new.sheet blank_sheet c.if-not-unify.ensures;
+      answer = no_clash sig M left right c.requires.left c.requires.right cells is j.left c.join-joint.ensures.left_cells (replicate 16 blank) refl c.if-not-unify.ensures;
       blank = search rules;
     }
 
@@ -60,7 +57,7 @@ finish-requires g c =
     record {
       good = good_both sig M left right c.requires.left c.requires.right cells is j.left c.join-joint.ensures.left_cells;
       fine = fine_both sig M left right c.requires.left c.requires.right cells is j.left c.join-joint.ensures.left_cells;
-      long = (omega (arith, c.wipe.auto.sheet, c.unify.auto.sheet), some_cells sig M left right c.requires.left c.requires.right cells is j.left c.join-joint.ensures.left_cells);
+      some = some_cells sig M left right c.requires.left c.requires.right cells is j.left c.join-joint.ensures.left_cells;
       straight = c.if-not-unify.ensures.straight;
       few = few_both sig M left right c.requires.left c.requires.right cells is j.left c.join-joint.ensures.left_cells ks ki;
       named = named_both sig M left right c.requires.left c.requires.right cells is j.left c.join-joint.ensures.left_cells ks ki;
@@ -77,9 +74,8 @@ returns g c =
     let is : cells ≡ pair left.cells right.cells = from_start j.cells j.len ∙ c.join-joint.ensures.cells in
     let ks = take (j.count - 0) j.constraints in
     let ki : ks ≡ both_constraints left.constraints right.constraints = from_start j.constraints j.count ∙ c.join-joint.ensures.constraints in
-    let blank_sheet : Blank c.wipe.new.sheet = c.wipe.ensures ∙ ap (λ (n : ℕ). replicate n blank) (let e : length c.args.sheet.now ≡ 16 = omega arith in e) in
     record {
-      answer = told sig M left right c.requires.left c.requires.right cells is j.left c.join-joint.ensures.left_cells ks ki c.wipe.new.sheet c.unify.new.sheet blank_sheet
+      answer = told sig M left right c.requires.left c.requires.right cells is j.left c.join-joint.ensures.left_cells ks ki (replicate 16 blank) c.unify.new.sheet refl
           c.if-not-unify.ensures c.finish.result c.finish.ensures;
       blank = search rules;
     }

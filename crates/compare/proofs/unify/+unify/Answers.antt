@@ -13,7 +13,6 @@ returns-then-n-eq0 t c = none c.args.signature.now.arities c.args.cells.now c.ar
 pub deref-p-requires : goal.deref-p-requires
 deref-p-requires t c = record {
   good = c.requires.good;
-  long = c.requires.long;
   straight = c.requires.straight;
   within = (step c.args.signature.now.arities c.args.cells.now c.args.i c.args.n c.requires.left (omega arith)).within;
 }
@@ -21,7 +20,6 @@ deref-p-requires t c = record {
 pub deref-q-requires : goal.deref-q-requires
 deref-q-requires t c = record {
   good = c.requires.good;
-  long = c.requires.long;
   straight = c.requires.straight;
   within = (step c.args.signature.now.arities c.args.cells.now c.args.j c.args.n c.requires.right (omega arith)).within;
 }
@@ -45,13 +43,10 @@ unify-requires t c =
       (
         c.requires.good,
         (
-          omega (arith, c.meet.auto.sheet),
+          c.in-Bound.ensures.straight,
           (
-            c.in-Bound.ensures.straight,
-            (
-              begins_rest c.args.signature.now.arities c.args.cells.now c.args.i c.skip-u.result c.args.n pos c.skip-u.ensures.rest c.requires.left,
-              begins_rest c.args.signature.now.arities c.args.cells.now c.args.j c.skip-v.result c.args.n pos c.skip-v.ensures.rest c.requires.right,
-            ),
+            begins_rest c.args.signature.now.arities c.args.cells.now c.args.i c.skip-u.result c.args.n pos c.skip-u.ensures.rest c.requires.left,
+            begins_rest c.args.signature.now.arities c.args.cells.now c.args.j c.skip-v.result c.args.n pos c.skip-v.ensures.rest c.requires.right,
           ),
         ),
       ),
@@ -78,13 +73,10 @@ unify-requires-then-q-j t c =
       (
         c.requires.good,
         (
-          omega (arith, c.meet.auto.sheet),
+          subst (Straight c.args.cells.now) (sym c.in-Equal.ensures.0) c.requires.straight,
           (
-            subst (Straight c.args.cells.now) (sym c.in-Equal.ensures.0) c.requires.straight,
-            (
-              subst (λ (k : ℕ). Begins c.args.signature.now.arities (c.args.n - 1 + k) (drop (c.args.i + 1) c.args.cells.now)) (sym e) s.begins,
-              subst (λ (k : ℕ). Begins c.args.signature.now.arities (c.args.n - 1 + k) (drop (c.args.j + 1) c.args.cells.now)) (sym f) z.begins,
-            ),
+            subst (λ (k : ℕ). Begins c.args.signature.now.arities (c.args.n - 1 + k) (drop (c.args.i + 1) c.args.cells.now)) (sym e) s.begins,
+            subst (λ (k : ℕ). Begins c.args.signature.now.arities (c.args.n - 1 + k) (drop (c.args.j + 1) c.args.cells.now)) (sym f) z.begins,
           ),
         ),
       ),
@@ -150,13 +142,10 @@ unify-requires-in-Equal t c =
       (
         c.requires.good,
         (
-          omega (arith, c.meet.auto.sheet),
+          subst (Straight c.args.cells.now) (sym c.in-Equal.ensures.0) c.requires.straight,
           (
-            subst (Straight c.args.cells.now) (sym c.in-Equal.ensures.0) c.requires.straight,
-            (
-              begins_args c.args.signature.now.arities c.args.cells.now c.deref-p.result c.arity-k.result c.requires.good p e,
-              begins_args c.args.signature.now.arities c.args.cells.now c.deref-q.result c.arity-k.result c.requires.good q f,
-            ),
+            begins_args c.args.signature.now.arities c.args.cells.now c.deref-p.result c.arity-k.result c.requires.good p e,
+            begins_args c.args.signature.now.arities c.args.cells.now c.deref-q.result c.arity-k.result c.requires.good q f,
           ),
         ),
       ),
@@ -192,13 +181,10 @@ unify-requires-in-Equal-2 t c =
       (
         c.requires.good,
         (
-          omega (arith, c.meet.auto.sheet, c.unify-in-Equal.auto.sheet),
+          c.if-not-unify.ensures.straight,
           (
-            c.if-not-unify.ensures.straight,
-            (
-              begins_rest c.args.signature.now.arities c.args.cells.now c.args.i c.skip-u-in-Equal.result c.args.n pos c.skip-u-in-Equal.ensures.rest c.requires.left,
-              begins_rest c.args.signature.now.arities c.args.cells.now c.args.j c.skip-v-in-Equal.result c.args.n pos c.skip-v-in-Equal.ensures.rest c.requires.right,
-            ),
+            begins_rest c.args.signature.now.arities c.args.cells.now c.args.i c.skip-u-in-Equal.result c.args.n pos c.skip-u-in-Equal.ensures.rest c.requires.left,
+            begins_rest c.args.signature.now.arities c.args.cells.now c.args.j c.skip-v-in-Equal.result c.args.n pos c.skip-v-in-Equal.ensures.rest c.requires.right,
           ),
         ),
       ),

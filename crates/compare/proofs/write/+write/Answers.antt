@@ -1,4 +1,4 @@
-use Rattle.std.proofs.Common.{◌≡◌, ℕ, ◌+◌, ◌-◌, ◌<◌, [], ◌∷◌, ◌++◌, drop, sym, ap, ◌∙◌, subst, arith, length-set}
+use Rattle.std.proofs.Common.{◌≡◌, ℕ, ◌+◌, ◌-◌, ◌<◌, [], ◌∷◌, ◌++◌, drop, sym, ap, ◌∙◌, subst, arith}
 use Rattle.terms.specs.Terms.{arity, Subst, apply}
 use Rattle.unification.specs.Fronts.{Begins, at, part}
 use Rattle.unification.specs.Unifiers.{Assign}
@@ -15,7 +15,7 @@ returns-then-n-eq0 t c = record {
   cells = λ σ a s f.
       let e : apply σ (part c.args.signature.now.arities c.args.cells.now c.args.i c.args.n) ≡ [] =
       ap (λ (n : ℕ). apply σ (part c.args.signature.now.arities c.args.cells.now c.args.i n)) c.if-n-eq0.true ∙ ap (apply σ) (terms_none c.args.signature.now.arities (drop c.args.i c.args.cells.now)) in
-      subst (λ xs. Wrote xs c.args.row.now c.args.row.now c.args.at c.args.at) (sym e) (wrote_none c.args.row.now c.args.at c.requires.long.2 c.requires.long.3);
+      subst (λ xs. Wrote xs c.args.row.now c.args.row.now c.args.at c.args.at) (sym e) (wrote_none c.args.row.now c.args.at (omega arith) c.requires.within);
 }
 
 pub returns-then-at-eq12 : goal.returns-then-at-eq12
@@ -23,14 +23,13 @@ returns-then-at-eq12 t c =
     let pos : 0 < c.args.n = omega arith in
     record {
       grows = (omega arith, omega arith);
-      cells = λ σ a s f. wrote_full (apply σ (part c.args.signature.now.arities c.args.cells.now c.args.i c.args.n)) c.args.row.now c.args.at c.requires.long.2 c.if-at-eq12.true
+      cells = λ σ a s f. wrote_full (apply σ (part c.args.signature.now.arities c.args.cells.now c.args.i c.args.n)) c.args.row.now c.args.at (omega arith) c.if-at-eq12.true
           (at_some c.args.signature.now.arities c.args.cells.now c.args.i c.args.n σ a pos c.requires.here);
     }
 
 pub deref-p-requires : goal.deref-p-requires
 deref-p-requires t c = record {
   good = c.requires.good;
-  long = c.requires.long.0;
   straight = c.requires.straight;
   within = (step c.args.signature.now.arities c.args.cells.now c.args.i c.args.n c.requires.here (omega arith)).within;
 }
@@ -48,7 +47,7 @@ write-requires t c =
       (
         c.requires.good,
         (
-          (c.requires.long.0, c.requires.long.1, length-set c.args.row.now c.args.at _ ∙ c.requires.long.2, omega arith),
+          omega arith,
           (
             c.requires.straight,
             begins_var c.args.signature.now.arities c.args.cells.now c.args.i c.args.n pos c.requires.here v,
@@ -72,7 +71,7 @@ returns-then-c-eq86 t c =
           (c.deref-p.ensures.means σ s ∙ part_var c.args.signature.now.arities c.args.cells.now c.deref-p.result σ (c.requires.good.whole c.deref-p.result r.0) c.if-c-eq86.true
           ∙ f y (c.requires.good.vars c.deref-p.result r.0 c.if-c-eq86.true) (r.1 c.if-c-eq86.true)) in
           subst (λ xs. Wrote xs c.args.row.now c.write.new.row c.args.at c.write.result) (sym e)
-          (wrote_cell (at c.args.fills.now y) (apply σ (part c.args.signature.now.arities c.args.cells.now (c.args.i + 1) (c.args.n - 1))) c.args.row.now c.write.new.row c.args.at c.write.result c.requires.long.2 (omega arith)
+          (wrote_cell (at c.args.fills.now y) (apply σ (part c.args.signature.now.arities c.args.cells.now (c.args.i + 1) (c.args.n - 1))) c.args.row.now c.write.new.row c.args.at c.write.result (omega arith) (omega arith)
           (c.write.ensures.cells σ a s f));
     }
 
@@ -93,7 +92,7 @@ write-requires-then-p-i t c =
       (
         c.requires.good,
         (
-          (c.requires.long.0, c.requires.long.1, length-set c.args.row.now c.args.at _ ∙ c.requires.long.2, omega arith),
+          omega arith,
           (
             c.requires.straight,
             subst (λ (k : ℕ). Begins c.args.signature.now.arities (c.args.n - 1 + k) (drop (c.args.i + 1) c.args.cells.now)) (sym e) s.begins,
@@ -115,7 +114,7 @@ returns-then-p-i t c =
           subst (λ xs. Wrote xs c.args.row.now c.write-then-p-i.new.row c.args.at c.write-then-p-i.result)
           (ap (λ (k : ℕ). at c.args.cells.now k ∷ apply σ (part c.args.signature.now.arities c.args.cells.now (c.args.i + 1) (c.args.n - 1 + c.arity-k.result))) c.if-p-i.true
           ∙ sym (at_fix c.args.signature.now.arities c.args.cells.now c.args.i c.args.n c.arity-k.result σ pos c.requires.here v e))
-          (wrote_cell (at c.args.cells.now c.deref-p.result) (apply σ (part c.args.signature.now.arities c.args.cells.now (c.args.i + 1) (c.args.n - 1 + c.arity-k.result))) c.args.row.now c.write-then-p-i.new.row c.args.at c.write-then-p-i.result c.requires.long.2 (omega arith)
+          (wrote_cell (at c.args.cells.now c.deref-p.result) (apply σ (part c.args.signature.now.arities c.args.cells.now (c.args.i + 1) (c.args.n - 1 + c.arity-k.result))) c.args.row.now c.write-then-p-i.new.row c.args.at c.write-then-p-i.result (omega arith) (omega arith)
           (c.write-then-p-i.ensures.cells σ a s f));
     }
 
@@ -125,7 +124,7 @@ write-m-requires t c = (
   (
     c.requires.good,
     (
-      (c.requires.long.0, c.requires.long.1, length-set c.args.row.now c.args.at _ ∙ c.requires.long.2, omega arith),
+      omega arith,
       (
         c.requires.straight,
         begins_args c.args.signature.now.arities c.args.cells.now c.deref-p.result c.arity-k.result c.requires.good c.deref-p.ensures.rooted.0 c.arity-k.ensures.value,
@@ -145,14 +144,14 @@ returns-then-m-gt12 t c =
     c.deref-p.ensures.means σ s ∙ part_fix c.args.signature.now.arities c.args.cells.now c.deref-p.result σ (c.requires.good.whole c.deref-p.result c.deref-p.ensures.rooted.0) c.if-c-eq86.false
     ∙ ap (λ (m : ℕ). at c.args.cells.now c.deref-p.result ∷ apply σ (part c.args.signature.now.arities c.args.cells.now (c.deref-p.result + 1) m)) (sym c.arity-k.ensures.value) in
     subst (λ xs. Wrote xs c.args.row.now c.write-m.new.row c.args.at c.write-m.result) (sym e)
-    (wrote_cell (at c.args.cells.now c.deref-p.result) (apply σ (part c.args.signature.now.arities c.args.cells.now (c.deref-p.result + 1) c.arity-k.result)) c.args.row.now c.write-m.new.row c.args.at c.write-m.result c.requires.long.2 (omega arith)
+    (wrote_cell (at c.args.cells.now c.deref-p.result) (apply σ (part c.args.signature.now.arities c.args.cells.now (c.deref-p.result + 1) c.arity-k.result)) c.args.row.now c.write-m.new.row c.args.at c.write-m.result (omega arith) (omega arith)
     (c.write-m.ensures.cells σ a s f))) in
     record {
       grows = (omega arith, omega arith);
       cells = λ σ a s f.
           subst (λ xs. Wrote xs c.args.row.now c.write-m.new.row c.args.at 13) (sym (at_var c.args.signature.now.arities c.args.cells.now c.args.i c.args.n σ pos c.requires.here v))
           (wrote_over (apply σ (part c.args.signature.now.arities c.args.cells.now c.args.i 1)) (apply σ (part c.args.signature.now.arities c.args.cells.now (c.args.i + 1) (c.args.n - 1))) c.args.row.now c.write-m.new.row c.args.at c.write-m.result
-          (w σ a s f) c.if-m-gt12.true c.requires.long.2 c.requires.long.3);
+          (w σ a s f) c.if-m-gt12.true (omega arith) c.requires.within);
     }
 
 pub overflow_add-i-2 : goal.overflow_add-i-2
@@ -167,7 +166,7 @@ write-requires-2 t c =
       (
         c.requires.good,
         (
-          (c.requires.long.0, c.requires.long.1, c.write-m.auto.row ∙ length-set c.args.row.now c.args.at _ ∙ c.requires.long.2, omega arith),
+          omega arith,
           (
             c.requires.straight,
             begins_var c.args.signature.now.arities c.args.cells.now c.args.i c.args.n pos c.requires.here (c.deref-p.ensures.moved c.if-p-i.false),
@@ -187,12 +186,12 @@ returns t c =
     c.deref-p.ensures.means σ s ∙ part_fix c.args.signature.now.arities c.args.cells.now c.deref-p.result σ (c.requires.good.whole c.deref-p.result c.deref-p.ensures.rooted.0) c.if-c-eq86.false
     ∙ ap (λ (m : ℕ). at c.args.cells.now c.deref-p.result ∷ apply σ (part c.args.signature.now.arities c.args.cells.now (c.deref-p.result + 1) m)) (sym c.arity-k.ensures.value) in
     subst (λ xs. Wrote xs c.args.row.now c.write-m.new.row c.args.at c.write-m.result) (sym e)
-    (wrote_cell (at c.args.cells.now c.deref-p.result) (apply σ (part c.args.signature.now.arities c.args.cells.now (c.deref-p.result + 1) c.arity-k.result)) c.args.row.now c.write-m.new.row c.args.at c.write-m.result c.requires.long.2 (omega arith)
+    (wrote_cell (at c.args.cells.now c.deref-p.result) (apply σ (part c.args.signature.now.arities c.args.cells.now (c.deref-p.result + 1) c.arity-k.result)) c.args.row.now c.write-m.new.row c.args.at c.write-m.result (omega arith) (omega arith)
     (c.write-m.ensures.cells σ a s f))) in
     record {
       grows = (omega (arith, c.write-m.ensures.grows, c.write-2.ensures.grows), c.write-2.ensures.grows.1);
       cells = λ σ a s f.
           subst (λ xs. Wrote xs c.args.row.now c.write-2.new.row c.args.at c.write-2.result) (sym (at_var c.args.signature.now.arities c.args.cells.now c.args.i c.args.n σ pos c.requires.here v))
           (wrote_then (apply σ (part c.args.signature.now.arities c.args.cells.now c.args.i 1)) (apply σ (part c.args.signature.now.arities c.args.cells.now (c.args.i + 1) (c.args.n - 1))) c.args.row.now c.write-m.new.row c.write-2.new.row c.args.at c.write-m.result c.write-2.result
-          (w σ a s f) (omega arith) c.requires.long.2 c.requires.long.3 (c.write-2.ensures.cells σ a s f));
+          (w σ a s f) (omega arith) (omega arith) c.requires.within (c.write-2.ensures.cells σ a s f));
     }
