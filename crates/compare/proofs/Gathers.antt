@@ -1,35 +1,12 @@
 -- The conditions on a class of variables.
-use Rattle.std.proofs.Common.{◌≡◌, ℕ, zero, suc, ◌+◌, ◌<◌, Bool, true, false, cond, List, [], ◌∷◌, ◌++◌, map, length, take, set, filter, sym, refl, ap, ◌∙◌, subst, append-nil, arith}
+use Rattle.std.proofs.Common.{◌≡◌, ℕ, zero, suc, ◌<◌, Bool, true, false, cond, List, [], ◌∷◌, map, length, filter, refl, subst, arith}
 use Rattle.std.specs.List.{AllByRecursion}
-use Rattle.std.proofs.lemmas.List.{map-append, take_more_set}
-use Rattle.std.proofs.lemmas.List.Elements.{filter_more}
 use Rattle.kinds.specs.declared.condition.Condition.{Condition}
 use Rattle.terms.specs.declared.constraint.Constraint.{Constraint}
-use Rattle.compare.specs.declared.classes.Root.{Root}
-use Rattle.compare.specs.Roots.{on_class, class_conditions, constraint_at}
+use Rattle.compare.specs.Roots.{constraint_at}
 
 abbrev condition_of : Constraint → Condition
 condition_of k = k.condition
-
--- one constraint more
-module _ (roots : List Root) (ks : List Constraint) (y i : ℕ) (here : i < length ks) where
-  more : class_conditions roots (take (i + 1) ks) y
-      ≡ class_conditions roots (take i ks) y ++ map condition_of (cond (on_class roots y (constraint_at ks i)) (constraint_at ks i ∷ []) [])
-  more =
-      ap (map condition_of) (filter_more (on_class roots y) ks i (record { variable = 0; condition = record { form = 0; a = 0; b = 0 } }) here)
-      ∙ map-append condition_of (filter (on_class roots y) (take i ks)) (cond (on_class roots y (constraint_at ks i)) (constraint_at ks i ∷ []) [])
-
-  pub gathered : on_class roots y (constraint_at ks i) ≡ true → (qs : List Condition) (n : ℕ) → n < length qs → take n qs ≡ class_conditions roots (take i ks) y
-      → take (n + 1) (set qs n (constraint_at ks i).condition) ≡ class_conditions roots (take (i + 1) ks) y
-  gathered e qs n l h =
-      take_more_set qs n (constraint_at ks i).condition l
-      ∙ ap (λ zs. zs ++ ((constraint_at ks i).condition ∷ [])) h
-      ∙ sym (more ∙ ap (λ (b : Bool). class_conditions roots (take i ks) y ++ map condition_of (cond b (constraint_at ks i ∷ []) [])) e)
-
-  pub passed_over : on_class roots y (constraint_at ks i) ≡ false → class_conditions roots (take (i + 1) ks) y ≡ class_conditions roots (take i ks) y
-  passed_over e =
-      more ∙ ap (λ (b : Bool). class_conditions roots (take i ks) y ++ map condition_of (cond b (constraint_at ks i ∷ []) [])) e
-      ∙ append-nil (class_conditions roots (take i ks) y)
 
 -- what holds of the conditions that a test keeps
 module _ (P : Condition → Type 0) (t : Constraint → Bool) where

@@ -1,5 +1,5 @@
 -- What entries and bindings read as.
-use Rattle.std.proofs.Common.{◌≡◌, ℕ, zero, suc, ◌-◌, ◌<◌, ◌≤◌, ltb, List, [], ◌∷◌, take, drop, replicate, is_some, Some, None, Option, sym, refl, ap, ◌∙◌, arith, MatchOption}
+use Rattle.std.proofs.Common.{◌≡◌, ℕ, zero, suc, ◌<◌, ◌≤◌, ltb, List, [], ◌∷◌, drop, replicate, is_some, Some, None, Option, sym, refl, ap, ◌∙◌, arith, MatchOption}
 use Rattle.std.proofs.lemmas.Bool.{lt-ltb, le-ltb}
 use Rattle.terms.specs.declared.cell.Cell.{Cell}
 use Rattle.unification.specs.Fronts.{part}
@@ -9,10 +9,6 @@ use Rattle.compare.specs.declared.binding.Side.{Side}
 use Rattle.compare.specs.declared.binding.Side.TheVariants.{Left, Right}
 use Rattle.compare.specs.Bindings.{joint, place_of, CellWithin, WithinPatterns, replacements}
 use Rattle.std.specs.List.{AllByRecursion}
-
--- a part from the start
-pub from_start : {A : Type 0} (xs : List A) (n : ℕ) → take (n - 0) xs ≡ take n xs
-from_start xs n = let z : n - 0 ≡ n = omega arith in ap (λ (k : ℕ). take k xs) z
 
 -- a variable is bound exactly where its entry is a place among the cells
 pub bound_tells : (o : Option ℕ) (e n : ℕ) → MatchOption o (n ≤ e) (λ p. (p ≡ e) × (p < n)) → is_some o ≡ ltb e n

@@ -1,5 +1,6 @@
 // Constraints on classes of equal variables.
-ghost use Rattle.std.specs.Prelude.{◌≡◌, ℕ, ◌<◌, ◌≤◌, length, take, Decides, MatchOption};
+ghost use Rattle.std.specs.Prelude.{◌≡◌, ℕ, ◌<◌, ◌≤◌, length, Decides, MatchOption};
+ghost use Rattle.lists.specs.Lists.{items};
 ghost use Rattle.kinds.specs.Common.{Met};
 ghost use Rattle.unification.specs.Sheets.{Good, Straight};
 ghost use Rattle.compare.specs.Roots.{RootOf, root_at, constraint_at, class_conditions};
@@ -10,6 +11,7 @@ use crate::walk::deref;
 use kinds::common::smallest_value;
 use kinds::condition::Condition;
 use kinds::kind::Kind;
+use lists::up_to::UpTo;
 use terms::cell::Cell;
 use terms::constraint::{Constraint, NO_CONSTRAINT};
 use terms::signature::Signature;
@@ -53,31 +55,21 @@ pub fn roots_of(signature: &Signature, cells: &[Cell], sheet: &[Cell; 16]) -> [R
     roots
 }
 
-// The conditions on a class.
-#[derive(Clone, Copy)]
-pub struct Class {
-    pub conditions: [Condition; 16],
-    pub count: usize,
-}
-
 // The conditions on the variables that stand for the free variable y.
-fn gather(constraints: &[Constraint], roots: &[Root; 16], y: usize) -> Class
+fn gather(constraints: &[Constraint], roots: &[Root; 16], y: usize) -> UpTo<Condition, 16>
     requires few { length constraints.now ≤ 16 }
     requires named { (k : ℕ) → k < length constraints.now → (constraint_at constraints.now k).variable < 16 }
-    ensures few { result.count ≤ length result.conditions }
-    ensures all { take result.count result.conditions ≡ class_conditions roots.now constraints.now y }
+    ensures { items result ≡ class_conditions roots.now constraints.now y }
 {
-    let mut conditions = [NO_CONSTRAINT.condition; 16];
-    let mut count = 0;
+    let mut conditions = UpTo::new(NO_CONSTRAINT.condition);
     for constraint in constraints {
         if let Root::Variable(z) = roots[constraint.variable as usize] {
             if z == y {
-                conditions[count] = constraint.condition;
-                count += 1;
+                conditions.push(constraint.condition);
             }
         }
     }
-    Class { conditions, count }
+    conditions
 }
 
 // Whether the cell is a value that meets the condition.
@@ -110,7 +102,7 @@ pub fn settle<K: Kind>(
         match roots[constraint.variable as usize] {
             Root::Variable(y) => {
                 let class = gather(constraints, roots, y);
-                let rest = &class.conditions[0..class.count];
+                let rest = class.as_slice();
                 let value = smallest_value(kind, constraint.condition, rest)?;
                 fills[y] = Cell::from(value);
             }

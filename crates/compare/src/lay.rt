@@ -1,8 +1,10 @@
 // Two patterns laid one behind the other, the right one's variables as 8 to 15.
-ghost use Rattle.std.specs.Prelude.{◌≡◌, ◌+◌, ◌<◌, ◌≤◌, ◌++◌, map, length, take};
+ghost use Rattle.std.specs.Prelude.{◌≡◌, ◌+◌, ◌<◌, ◌≤◌, ◌++◌, map, length};
 ghost use Rattle.std.specs.List.{AllByRecursion};
+ghost use Rattle.lists.specs.Lists.{items};
 ghost use Rattle.unification.specs.Pairs.{shifted as shifted_cell, shifted_constraint};
 
+use lists::up_to::UpTo;
 use terms::cell::Cell;
 use terms::constraint::Constraint;
 
@@ -49,18 +51,15 @@ impl Shift for Constraint {
     }
 }
 
-// The left items, the right ones shifted, and blanks after them.
-pub fn lay<T: Shift + Copy, const N: usize>(left: &[T], right: &[T], blank: T) -> [T; N]
+// The left items, and behind them the right ones shifted.
+pub fn lay<T: Shift + Copy, const N: usize>(left: &[T], right: &[T], blank: T) -> UpTo<T, N>
     requires few { length left.now + length right.now ≤ N }
     requires small { AllByRecursion T.Shift.small right.now }
-    ensures { take (length left.now + length right.now) result ≡ left.now ++ map T.Shift.shifted right.now }
+    ensures { items result ≡ left.now ++ map T.Shift.shifted right.now }
 {
-    let mut laid = [blank; N];
-    for (i, item) in left.iter().enumerate() {
-        laid[i] = *item;
-    }
-    for (j, item) in right.iter().enumerate() {
-        laid[left.len() + j] = item.shift();
+    let mut laid = UpTo::of(left, blank);
+    for item in right {
+        laid.push(item.shift());
     }
     laid
 }

@@ -71,8 +71,8 @@ pub fn overlap<K: Kind>(
     ensures blank { Blank sheet.new }
 {
     let joint = join(left, right);
-    let cells = &joint.cells[0..joint.len];
-    let constraints = &joint.constraints[0..joint.count];
+    let cells = joint.cells.as_slice();
+    let constraints = joint.constraints.as_slice();
     *sheet = [BLANK; 16];
     let guard = Guard { sheet };
     if !unify(signature, cells, guard.sheet, 0, joint.left, 1, [false; 16]) {

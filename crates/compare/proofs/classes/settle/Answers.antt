@@ -1,8 +1,7 @@
-use Rattle.std.proofs.Common.{ℕ, ◌+◌, ◌-◌, ◌<◌, List, length, take, set, Option, sym, ap, ◌∙◌, subst, MatchOption}
+use Rattle.std.proofs.Common.{ℕ, ◌+◌, ◌<◌, List, length, set, Option, sym, ap, ◌∙◌, subst, MatchOption}
 use Rattle.terms.specs.declared.cell.Cell.{Cell}
 use Rattle.compare.specs.Roots.{constraint_at}
 use Rattle.compare.specs.Settling.{WithinCells, Unmet, Settled}
-use Rattle.compare.proofs.Readings.{from_start}
 use Rattle.compare.proofs.Values.{fails_class, settled_class, settled_term}
 use Rattle.compare.proofs.classes.settle.Goals as goal
 use Rattle.compare.proofs.classes.settle.Goals.{in-Variable+in_ok-value-in-Variable, in-Term+else-not-meets}
@@ -14,8 +13,8 @@ returns-in_err-value-in-Variable g c =
     let rs = c.args.roots.now in
     let ks = c.args.constraints.now in
     subst (λ (o : Option (List Cell)). MatchOption o (Unmet M cells rs ks) (λ fills. Settled M cells rs ks fills (length ks))) (sym c.from_residual.ensures)
-    (fails_class M cells rs ks c.loop-constraint.constraint-index c.in-Variable.y (take (c.gather-class.result.count - 0) c.gather-class.result.conditions)
-    c.loop-constraint-test.true c.in-Variable.is (from_start c.gather-class.result.conditions c.gather-class.result.count ∙ c.gather-class.ensures.all) c.in_err-value-in-Variable.ensures)
+    (fails_class M cells rs ks c.loop-constraint.constraint-index c.in-Variable.y c.as_slice-rest.result.now
+    c.loop-constraint-test.true c.in-Variable.is (c.as_slice-rest.ensures ∙ c.gather-class.ensures) c.in_err-value-in-Variable.ensures)
 
 pub loop-constraint-preserved : goal.loop-constraint-preserved
 loop-constraint-preserved g c =
@@ -31,7 +30,7 @@ loop-constraint-preserved g c =
           let small : w.in-Variable.y < 16 = subst (WithinCells cells) w.in-Variable.is (c.requires.rooted (constraint_at ks i).variable (c.requires.named i c.loop-constraint-test.true)) in
           subst (λ (fs : List Cell). Settled M cells rs ks fs (i + 1)) (sym (w.fills-is ∙ ap (set fills w.in-Variable.y) w.from.ensures))
           (settled_class M cells rs ks fills i w.in-Variable.y w.in_ok-value-in-Variable.value.letter w.in_ok-value-in-Variable.value.code
-          (take (w.gather-class.result.count - 0) w.gather-class.result.conditions) c.loop-constraint-test.true small w.in-Variable.is (from_start w.gather-class.result.conditions w.gather-class.result.count ∙ w.gather-class.ensures.all) h.0 h.1 c.loop-constraint.invariant))
+          w.as_slice-rest.result.now c.loop-constraint-test.true small w.in-Variable.is (w.as_slice-rest.ensures ∙ w.gather-class.ensures) h.0 h.1 c.loop-constraint.invariant))
       | in-Term+else-not-meets w ↦
           subst (λ (fs : List Cell). Settled M cells rs ks fs (i + 1)) (sym w.fills-is)
           (settled_term M cells rs ks fills i w.in-Term.place w.in-Term.is (w.meets.ensures.0 w.if-not-meets.false) c.loop-constraint.invariant)

@@ -1,8 +1,7 @@
-use Rattle.std.proofs.Common.{◌≡◌, ◌-◌, take, replicate, refl, ◌∙◌, rules}
+use Rattle.std.proofs.Common.{◌≡◌, replicate, refl, ◌∙◌, rules}
 use Rattle.terms.specs.Fitting.{described}
 use Rattle.unification.specs.Sheets.{blank}
 use Rattle.unification.specs.Pairs.{pair, both_constraints}
-use Rattle.compare.proofs.Readings.{from_start}
 use Rattle.compare.proofs.Findings.{small_cells, small_constraints, good_both, fine_both, some_cells, starts_left, starts_right, straight_blank, no_clash, few_both, named_both, told}
 use Rattle.compare.proofs.overlap.overlap.Goals as goal
 
@@ -20,8 +19,8 @@ unify-requires g c =
     let left = described c.args.left.now in
     let right = described c.args.right.now in
     let j = c.join-joint.result in
-    let cells = take (j.len - 0) j.cells in
-    let is : cells ≡ pair left.cells right.cells = from_start j.cells j.len ∙ c.join-joint.ensures.cells in
+    let cells = c.as_slice-cells.result.now in
+    let is : cells ≡ pair left.cells right.cells = c.as_slice-cells.ensures ∙ c.join-joint.ensures.cells in
     record {
       good = good_both sig M left right c.requires.left c.requires.right cells is j.left c.join-joint.ensures.left_cells;
       straight = straight_blank sig M left right c.requires.left c.requires.right cells is j.left c.join-joint.ensures.left_cells (replicate 16 blank) refl;
@@ -36,8 +35,8 @@ returns-then-not-unify g c =
     let left = described c.args.left.now in
     let right = described c.args.right.now in
     let j = c.join-joint.result in
-    let cells = take (j.len - 0) j.cells in
-    let is : cells ≡ pair left.cells right.cells = from_start j.cells j.len ∙ c.join-joint.ensures.cells in
+    let cells = c.as_slice-cells.result.now in
+    let is : cells ≡ pair left.cells right.cells = c.as_slice-cells.ensures ∙ c.join-joint.ensures.cells in
     record {
       answer = no_clash sig M left right c.requires.left c.requires.right cells is j.left c.join-joint.ensures.left_cells (replicate 16 blank) refl c.if-not-unify.ensures;
       blank = search rules;
@@ -50,10 +49,10 @@ finish-requires g c =
     let left = described c.args.left.now in
     let right = described c.args.right.now in
     let j = c.join-joint.result in
-    let cells = take (j.len - 0) j.cells in
-    let is : cells ≡ pair left.cells right.cells = from_start j.cells j.len ∙ c.join-joint.ensures.cells in
-    let ks = take (j.count - 0) j.constraints in
-    let ki : ks ≡ both_constraints left.constraints right.constraints = from_start j.constraints j.count ∙ c.join-joint.ensures.constraints in
+    let cells = c.as_slice-cells.result.now in
+    let is : cells ≡ pair left.cells right.cells = c.as_slice-cells.ensures ∙ c.join-joint.ensures.cells in
+    let ks = c.as_slice-constraints.result.now in
+    let ki : ks ≡ both_constraints left.constraints right.constraints = c.as_slice-constraints.ensures ∙ c.join-joint.ensures.constraints in
     record {
       good = good_both sig M left right c.requires.left c.requires.right cells is j.left c.join-joint.ensures.left_cells;
       fine = fine_both sig M left right c.requires.left c.requires.right cells is j.left c.join-joint.ensures.left_cells;
@@ -70,10 +69,10 @@ returns g c =
     let left = described c.args.left.now in
     let right = described c.args.right.now in
     let j = c.join-joint.result in
-    let cells = take (j.len - 0) j.cells in
-    let is : cells ≡ pair left.cells right.cells = from_start j.cells j.len ∙ c.join-joint.ensures.cells in
-    let ks = take (j.count - 0) j.constraints in
-    let ki : ks ≡ both_constraints left.constraints right.constraints = from_start j.constraints j.count ∙ c.join-joint.ensures.constraints in
+    let cells = c.as_slice-cells.result.now in
+    let is : cells ≡ pair left.cells right.cells = c.as_slice-cells.ensures ∙ c.join-joint.ensures.cells in
+    let ks = c.as_slice-constraints.result.now in
+    let ki : ks ≡ both_constraints left.constraints right.constraints = c.as_slice-constraints.ensures ∙ c.join-joint.ensures.constraints in
     record {
       answer = told sig M left right c.requires.left c.requires.right cells is j.left c.join-joint.ensures.left_cells ks ki (replicate 16 blank) c.unify.new.sheet refl
           c.if-not-unify.ensures c.finish.result c.finish.ensures;
