@@ -48,11 +48,7 @@ pub fn roots_of(signature: &Signature, cells: &[Cell], sheet: &[Cell; 16]) -> [R
     requires straight { Straight cells.now sheet.now }
     ensures { (x : ℕ) → x < 16 → RootOf signature.now.arities cells.now sheet.now x (root_at result x) }
 {
-    let mut roots = [Root::Term(0); 16];
-    for x in 0..16 {
-        roots[x] = root_of(signature, cells, sheet, x);
-    }
-    roots
+    std::array::from_fn(|x| root_of(signature, cells, sheet, x))
 }
 
 // The conditions on the variables that stand for the free variable y.
@@ -63,10 +59,9 @@ fn gather(constraints: &[Constraint], roots: &[Root; 16], y: usize) -> UpTo<Cond
 {
     let mut conditions = UpTo::new(NO_CONSTRAINT.condition);
     for constraint in constraints {
-        if let Root::Variable(z) = roots[constraint.variable as usize] {
-            if z == y {
-                conditions.push(constraint.condition);
-            }
+        let root = roots[constraint.variable as usize];
+        if matches!(root, Root::Variable(z) if z == y) {
+            conditions.push(constraint.condition);
         }
     }
     conditions

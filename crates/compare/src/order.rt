@@ -8,6 +8,7 @@ ghost use Rattle.compare.specs.Leaves.{IsLeaf};
 
 use crate::binding::{Binding, Side, TermPlace, Variable};
 use crate::sheet::bound;
+use crate::walk::term;
 use terms::cell::Cell;
 use terms::signature::Signature;
 
@@ -58,15 +59,10 @@ fn ready(signature: &Signature, cells: &[Cell], wait: [bool; 16], i: usize) -> b
     requires within { i < length cells.now }
     ensures { Ready signature.now.arities cells.now wait i result }
 {
-    let mut at = i;
-    let mut left = 1;
-    while left > 0 {
-        let c = cells[at];
-        if c.letter == b'V' && wait[c.number as usize] {
+    for cell in term(signature, cells, i) {
+        if cell.letter == b'V' && wait[cell.number as usize] {
             return false;
         }
-        left = left - 1 + signature.arity(c);
-        at += 1;
     }
     true
 }
@@ -96,23 +92,12 @@ fn choose(signature: &Signature, cells: &[Cell], sheet: &[Cell; 16], wait: [bool
     None
 }
 
-fn count(wait: [bool; 16]) -> usize
-    ensures { result ≡ opens wait }
-{
-    let mut n = 0;
-    for x in wait.iter() {
-        if *x {
-            n += 1;
-        }
-    }
-    n
-}
-
 // Which variables are bound.
 fn bound_of(cells: &[Cell], sheet: &[Cell; 16]) -> [bool; 16]
     requires few { length cells.now ≤ 48 }
     ensures { (x : ℕ) → x < 16 → slice_index_or result x false ≡ nat_lt (entry sheet.now x) (length cells.now) }
 {
+    // a closure's answer is known only where it is one call's: `from_fn` would need a function more
     let mut wait = [false; 16];
     for x in 0..16 {
         wait[x] = bound(cells, sheet, x).is_some();
@@ -133,16 +118,15 @@ pub fn order(
     ensures { MatchOption result (Unsolved signature.now.arities cells.now sheet.now) (λ out. Ordered signature.now.arities cells.now sheet.now (replacements signature.now.arities cells.now left out) × AllByRecursion (WithinPatterns left (length cells.now - left)) out) }
 {
     let mut wait = bound_of(cells, sheet);
-    let mut to_place = count(wait);
+    let to_place = wait.iter().filter(|open| **open).count();
     let mut out = [None; 16];
-    while to_place > 0 {
+    for k in (0..to_place).rev() {
         let leaf = choose(signature, cells, sheet, wait)?;
-        to_place -= 1;
         let binding = Binding {
             variable: Variable::joint(leaf.variable),
             term: TermPlace::joint(leaf.place, left),
         };
-        out[to_place] = Some(binding);
+        out[k] = Some(binding);
         wait[leaf.variable] = false;
     }
     Some(out)

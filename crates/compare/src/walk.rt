@@ -1,6 +1,6 @@
 // Ways through the cells: past a term, and from a bound variable to what it stands for.
 ghost use Rattle.std.specs.Prelude.{◌≡◌, ◌<◌, ◌≤◌, length, drop};
-ghost use Rattle.unification.specs.Fronts.{after};
+ghost use Rattle.unification.specs.Fronts.{after, part};
 ghost use Rattle.unification.specs.Sheets.{Good, Straight, Derefs};
 
 use crate::sheet::bound;
@@ -21,6 +21,15 @@ pub fn skip(signature: &Signature, cells: &[Cell], i: usize) -> usize
         at += 1;
     }
     at
+}
+
+// The cells of the term at `i`.
+pub fn term<'a>(signature: &Signature, cells: &'a [Cell], i: usize) -> &'a [Cell]
+    requires good { Good signature.now.arities cells.now }
+    requires within { i < length cells.now }
+    ensures { result.now ≡ part signature.now.arities cells.now i 1 }
+{
+    &cells[i..skip(signature, cells, i)]
 }
 
 // The place that the term at `i` stands for: a symbol, a value or a free variable.
