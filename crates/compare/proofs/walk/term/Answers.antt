@@ -1,5 +1,0 @@
-use Rattle.unification.proofs.Places.{part_to}
-use Rattle.compare.proofs.walk.term.Goals as goal
-
-pub returns : goal.returns
-returns c = part_to c.args.signature.now.arities c.args.cells.now c.args.i c.skip.result c.skip.ensures.within.0 c.skip.ensures.within.1 c.skip.ensures.rest
