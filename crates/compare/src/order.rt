@@ -76,7 +76,7 @@ impl Bound<'_> {
     // A waiting variable that is a leaf.
     fn leaf(&self, wait: [bool; 16]) -> Option<Leaf>
         requires { Within self.now.terms.cells.now self.now.sheet.now wait }
-        ensures { MatchOption result (Stuck self.now.terms.signature.now.arities self.now.terms.cells.now self.now.sheet.now wait) (λ leaf. IsLeaf self.now.terms.signature.now.arities self.now.terms.cells.now self.now.sheet.now wait leaf) }
+        ensures { let sig = self.now.terms.signature.now.arities in let cells = self.now.terms.cells.now in let sheet = self.now.sheet.now in MatchOption result (Stuck sig cells sheet wait) (λ leaf. IsLeaf sig cells sheet wait leaf) }
     {
         // not `find_map`: of a closure with several calls too little is known to tell what its `None` says
         for variable in 0..16 {
@@ -106,7 +106,7 @@ impl Bound<'_> {
     // The bindings, so that no variable stands in its own term or in a later one's; none if they go in a circle.
     // `left` is the number of the left pattern's cells.
     pub fn order(&self, left: usize) -> Option<[Option<Binding>; 16]>
-        ensures { MatchOption result (Unsolved self.now.terms.signature.now.arities self.now.terms.cells.now self.now.sheet.now) (λ out. Ordered self.now.terms.signature.now.arities self.now.terms.cells.now self.now.sheet.now (replacements self.now.terms.signature.now.arities self.now.terms.cells.now left out) × AllByRecursion (WithinPatterns left (length self.now.terms.cells.now - left)) out) }
+        ensures { let sig = self.now.terms.signature.now.arities in let cells = self.now.terms.cells.now in let sheet = self.now.sheet.now in MatchOption result (Unsolved sig cells sheet) (λ out. Ordered sig cells sheet (replacements sig cells left out) × AllByRecursion (WithinPatterns left (length cells - left)) out) }
     {
         let mut wait = self.bound();
         let to_place = wait.iter().filter(|open| **open).count();

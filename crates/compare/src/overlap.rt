@@ -32,7 +32,7 @@ impl Bound<'_> {
         requires some { 0 < length self.now.terms.cells.now }
         requires few { length constraints.now ≤ 16 }
         requires named { (k : ℕ) → k < length constraints.now → (constraint_at constraints.now k).variable < 16 }
-        ensures { MatchOption result (Unsampled self.now.terms.signature.now.arities (K.Kind.means kind.now) self.now.terms.cells.now self.now.sheet.now constraints.now) (λ common. Ordered self.now.terms.signature.now.arities self.now.terms.cells.now self.now.sheet.now (replacements self.now.terms.signature.now.arities self.now.terms.cells.now left common.bindings) × AllByRecursion (WithinPatterns left (length self.now.terms.cells.now - left)) common.bindings × Drawn self.now.terms.signature.now.arities (K.Kind.means kind.now) self.now.terms.cells.now self.now.sheet.now constraints.now (sequence (replacements self.now.terms.signature.now.arities self.now.terms.cells.now left common.bindings)) common.sample) }
+        ensures { let sig = self.now.terms.signature.now.arities in let cells = self.now.terms.cells.now in let sheet = self.now.sheet.now in MatchOption result (Unsampled sig (K.Kind.means kind.now) cells sheet constraints.now) (λ common. Ordered sig cells sheet (replacements sig cells left common.bindings) × AllByRecursion (WithinPatterns left (length cells - left)) common.bindings × Drawn sig (K.Kind.means kind.now) cells sheet constraints.now (sequence (replacements sig cells left common.bindings)) common.sample) }
     {
         let bindings = self.order(left)?;
         let fills = settle(kind, self.terms.cells, &self.roots(), constraints)?;

@@ -66,7 +66,7 @@ impl Terms<'_> {
 
     // Makes the n terms at `i` and the n terms at `j` equal, by bindings on the sheet; false if nothing can.
     // `seen` has the variables whose terms the comparison is inside of: to meet one of them again is a circle.
-    // The sheet is no field: a method that writes it would have to promise that the terms stay.
+    // The sheet is no field here: with `&mut self` each call would have to promise that the terms stay.
     pub fn unify(
         &self,
         sheet: &mut [Cell; 16],

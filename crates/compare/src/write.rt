@@ -23,7 +23,7 @@ impl Bound<'_> {
         requires within { at ≤ 12 }
         requires here { Begins self.now.terms.signature.now.arities n (drop i self.now.terms.cells.now) }
         ensures grows { (at ≤ result) × (result ≤ 13) }
-        ensures cells { (σ : Subst) → Assign self.now.terms.signature.now.arities σ → Sol self.now.terms.signature.now.arities self.now.terms.cells.now self.now.sheet.now σ → Fills self.now.terms.cells.now self.now.sheet.now fills.now σ → Wrote (apply σ (part self.now.terms.signature.now.arities self.now.terms.cells.now i n)) row.old row.new at result }
+        ensures cells { let sig = self.now.terms.signature.now.arities in let cells = self.now.terms.cells.now in let sheet = self.now.sheet.now in (σ : Subst) → Assign sig σ → Sol sig cells sheet σ → Fills cells sheet fills.now σ → Wrote (apply σ (part sig cells i n)) row.old row.new at result }
     {
         if n == 0 {
             return at;
