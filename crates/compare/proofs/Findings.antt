@@ -3,6 +3,7 @@ use Rattle.std.proofs.Common.{◌≡◌, ℕ, ◌-◌, ◌<◌, ◌≤◌, false
 use Rattle.std.specs.List.{AllByRecursion}
 use Rattle.std.proofs.ByRecursion.{All-get_or, All-weaker}
 use Rattle.std.proofs.lemmas.List.{length-append, length-map}
+use Rattle.lists.specs.Lists.{items}
 use Rattle.kinds.specs.Meaning.{Meaning}
 use Rattle.terms.specs.declared.cell.Cell.{Cell}
 use Rattle.terms.specs.declared.constraint.Constraint.{Constraint}
@@ -19,84 +20,96 @@ use Rattle.unification.proofs.Theory.{apply_comp, apply_ext}
 use Rattle.unification.proofs.Cells.{fine_var}
 use Rattle.unification.proofs.Pairs.{Usable, usable, good, inside_left, inside_right, levels, unlevels, blank_sol, blank_straight, clashed, found, part_left, pair_fine, pair_named}
 use Rattle.unification.proofs.Fitting.{shared, fits_left, fits_right}
+use Rattle.compare.specs.declared.join.Joint.{Joint}
 use Rattle.compare.specs.declared.sample.Common.{Common}
 use Rattle.compare.specs.declared.sample.Sample.{Sample}
 use Rattle.compare.specs.Bindings.{WithinPatterns, replacements, unifier}
+use Rattle.compare.specs.Joints.{Joined}
 use Rattle.compare.specs.Roots.{constraint_at}
 use Rattle.compare.specs.Answers.{Shows, Sampled, CommonPart, Unsampled, Drawn}
 
 -- what a pattern's cells and constraints have that can be shifted
-pub small_cells : (sig : List ℕ) (M : Meaning) (p : Description) → ProperPattern sig M p → AllByRecursion (λ c. c.letter ≡ 86 → c.number < 8) p.cells
-small_cells sig M p h = All-weaker (Fine M 8) (λ c. c.letter ≡ 86 → c.number < 8) (λ c f. fine_var M 8 c f) p.cells h.cells.term.fine
+pub small_cells : {sig : List ℕ} {M : Meaning} {p : Description} → ProperPattern sig M p → AllByRecursion (λ c. c.letter ≡ 86 → c.number < 8) p.cells
+small_cells {M = M} {p = p} h = All-weaker (Fine M 8) (λ c. c.letter ≡ 86 → c.number < 8) (λ c f. fine_var M 8 c f) p.cells h.cells.term.fine
 
-pub small_constraints : (sig : List ℕ) (M : Meaning) (p : Description) → ProperPattern sig M p → AllByRecursion (λ k. k.variable < 8) p.constraints
-small_constraints sig M p h = All-weaker (Constrains M) (λ k. k.variable < 8) (λ k f. f.0) p.constraints h.constraints.each
+pub small_constraints : {sig : List ℕ} {M : Meaning} {p : Description} → ProperPattern sig M p → AllByRecursion (λ k. k.variable < 8) p.constraints
+small_constraints {M = M} {p = p} h = All-weaker (Constrains M) (λ k. k.variable < 8) (λ k f. f.0) p.constraints h.constraints.each
 
-module _ (sig : List ℕ) (M : Meaning) (left right : Description) (a : ProperPattern sig M left) (b : ProperPattern sig M right)
-    (cells : List Cell) (is : cells ≡ pair left.cells right.cells) (n : ℕ) (at_n : n ≡ length left.cells) where
+-- the cells are those of the two patterns, n of them the left one's
+pub record Both (sig : List ℕ) (M : Meaning) (left right : Description) (cells : List Cell) (n : ℕ) : Type 0 where
+  pub left_proper : ProperPattern sig M left
+  pub right_proper : ProperPattern sig M right
+  pub is : cells ≡ pair left.cells right.cells
+  pub at_n : n ≡ length left.cells
+
+pub both : {sig : List ℕ} {M : Meaning} {left right : Description} {j : Joint} {cells : List Cell} → ProperPattern sig M left → ProperPattern sig M right → Joined left right j → cells ≡ items j.cells
+    → Both sig M left right cells j.left
+both a b j e = record { left_proper = a; right_proper = b; is = e ∙ j.cells; at_n = j.left_cells }
+
+module _ {sig : List ℕ} {M : Meaning} {left right : Description} {cells : List Cell} {n : ℕ} (two : Both sig M left right cells n) where
   use_left : Usable sig left.cells
-  use_left = usable sig M left.cells a.cells
+  use_left = usable sig M left.cells two.left_proper.cells
 
   use_right : Usable sig right.cells
-  use_right = usable sig M right.cells b.cells
+  use_right = usable sig M right.cells two.right_proper.cells
 
   pub good_both : Good sig cells
-  good_both = good sig left.cells right.cells cells use_left use_right is
+  good_both = good sig left.cells right.cells cells use_left use_right two.is
 
   pub fine_both : AllByRecursion (Fine M 16) cells
-  fine_both = subst (AllByRecursion (Fine M 16)) (sym is) (pair_fine M left.cells right.cells a.cells.term.fine b.cells.term.fine)
+  fine_both = subst (AllByRecursion (Fine M 16)) (sym two.is) (pair_fine M left.cells right.cells two.left_proper.cells.term.fine two.right_proper.cells.term.fine)
 
   pub some_cells : 0 < length cells
-  some_cells = inside_left sig left.cells right.cells cells use_left use_right is
+  some_cells = inside_left sig left.cells right.cells cells use_left use_right two.is
 
   pub starts_left : Begins sig 1 cells
   starts_left = good_both.whole 0 some_cells
 
   pub starts_right : Begins sig 1 (drop n cells)
-  starts_right = subst (λ (k : ℕ). Begins sig 1 (drop k cells)) (sym at_n) (good_both.whole (length left.cells) (inside_right sig left.cells right.cells cells use_left use_right is))
+  starts_right = subst (λ (k : ℕ). Begins sig 1 (drop k cells)) (sym two.at_n) (good_both.whole (length left.cells) (inside_right sig left.cells right.cells cells use_left use_right two.is))
 
   pub straight_blank : (sheet : List Cell) → Blank sheet → Straight cells sheet
-  straight_blank = blank_straight sig left.cells right.cells cells use_left use_right is
+  straight_blank = blank_straight sig left.cells right.cells cells use_left use_right two.is
 
   -- what is left of the cells is the right pattern's
   right_cells : length cells - n ≡ length right.cells
   right_cells =
-      let e = ap length is ∙ length-append left.cells (map shifted right.cells) in
-      omega (arith, e, length-map right.cells shifted, at_n)
+      let e = ap length two.is ∙ length-append left.cells (map shifted right.cells) in
+      omega (arith, e, length-map right.cells shifted, two.at_n)
 
   choice_for : Overlap sig M left right → (σ : Subst) × Shared sig M left right σ
-  choice_for o = let s = shared sig M left right use_left.small a.constraints.each o.0 o.1 o.2 in (s.0, s.1)
+  choice_for o = let s = shared sig M left right use_left.small two.left_proper.constraints.each o.0 o.1 o.2 in (s.0, s.1)
 
   pub no_clash : (sheet : List Cell) → Blank sheet → Clash sig cells sheet 0 n 1 (replicate 16 false) → Overlap sig M left right → ⊥
   no_clash sheet k c o =
       let s = choice_for o in
-      clashed sig left.cells right.cells cells use_left use_right is sheet k (subst (λ (m : ℕ). Clash sig cells sheet 0 m 1 (replicate 16 false)) at_n c)
+      clashed sig left.cells right.cells cells use_left use_right two.is sheet k (subst (λ (m : ℕ). Clash sig cells sheet 0 m 1 (replicate 16 false)) two.at_n c)
       s.0 (λ x. (s.1.ground x).0) s.1.unifies
 
-  module _ (ks : List Constraint) (ki : ks ≡ both_constraints left.constraints right.constraints) where
+  module _ {ks : List Constraint} (ki : ks ≡ both_constraints left.constraints right.constraints) where
     pub few_both : length ks ≤ 16
     few_both =
         let e = ap length ki ∙ length-append left.constraints (map shifted_constraint right.constraints) in
-        omega (arith, e, length-map right.constraints shifted_constraint, a.constraints.few, b.constraints.few)
+        omega (arith, e, length-map right.constraints shifted_constraint, two.left_proper.constraints.few, two.right_proper.constraints.few)
 
     pub named_both : (k : ℕ) → k < length ks → (constraint_at ks k).variable < 16
     named_both k l =
         All-get_or (λ k. k.variable < 16) ks k (record { variable = 0; condition = record { form = 0; a = 0; b = 0 } }) l
-        (subst (AllByRecursion (λ k. k.variable < 16)) (sym ki) (pair_named M left.constraints right.constraints a.constraints.each b.constraints.each))
+        (subst (AllByRecursion (λ k. k.variable < 16)) (sym ki) (pair_named M left.constraints right.constraints two.left_proper.constraints.each two.right_proper.constraints.each))
 
-    module _ (before behind : List Cell) (blank_before : Blank before) (merged : Merged sig cells before behind 0 n 1) where
+    module _ {before behind : List Cell} (blank_before : Blank before) (merged : Merged sig cells before behind 0 n 1) where
       merged_here : Merged sig cells before behind 0 (length left.cells) 1
-      merged_here = subst (λ (m : ℕ). Merged sig cells before behind 0 m 1) at_n merged
+      merged_here = subst (λ (m : ℕ). Merged sig cells before behind 0 m 1) two.at_n merged
 
       solves_here : (σ : Subst) → Shared sig M left right σ → Sol sig cells behind σ
       solves_here σ s =
-          merged_here.full σ (λ x. (s.ground x).0) (blank_sol sig left.cells right.cells cells use_left use_right is before blank_before σ)
-          (unlevels sig left.cells right.cells cells use_left use_right is σ s.unifies)
+          merged_here.full σ (λ x. (s.ground x).0) (blank_sol sig left.cells right.cells cells use_left use_right two.is before blank_before σ)
+          (unlevels sig left.cells right.cells cells use_left use_right two.is σ s.unifies)
 
       shared_drawn : (μ : Subst) (s : Sample) → (d : Drawn sig M cells behind ks μ s) → Shared sig M left right d.choice
       shared_drawn μ s d = record {
         ground = d.ground;
-        unifies = levels sig left.cells right.cells cells use_left use_right is d.choice (merged_here.sound d.choice (λ x. (d.ground x).0) d.solves).1;
+        unifies = levels sig left.cells right.cells cells use_left use_right two.is d.choice (merged_here.sound d.choice (λ x. (d.ground x).0) d.solves).1;
         meets = subst (AllByRecursion (λ k. Satisfies M k.condition (d.choice k.variable))) ki d.meets;
       }
 
@@ -107,13 +120,13 @@ module _ (sig : List ℕ) (M : Meaning) (left right : Description) (a : ProperPa
         least = λ x l f. subst (λ qs. LeastChoice M μ qs x (d.choice x)) ki (d.least x l f);
         fits_left = fits_left sig M left right d.choice (shared_drawn μ s d);
         fits_right = fits_right sig M left right d.choice (shared_drawn μ s d);
-        shows = subst (λ xs. Shows s (apply d.choice xs)) (ap (λ (cs : List Cell). part sig cs 0 1) is ∙ part_left sig left.cells right.cells use_left.term) d.shows;
+        shows = subst (λ xs. Shows s (apply d.choice xs)) (ap (λ (cs : List Cell). part sig cs 0 1) two.is ∙ part_left sig left.cells right.cells use_left.term) d.shows;
       }
 
       every : (μ : Subst) → MostGeneral sig μ left.cells (map shifted right.cells) → (row : List Cell) → Fits sig M row left → Fits sig M row right
           → (σ : Subst) × Shared sig M left right σ × (row ≡ apply σ (apply μ left.cells))
       every μ m row f g =
-          let s = shared sig M left right use_left.small a.constraints.each row f g in
+          let s = shared sig M left right use_left.small two.left_proper.constraints.each row f g in
           let σ : Subst = s.0 in
           (σ, s.1, sym s.2 ∙ sym (apply_comp σ μ left.cells ∙ apply_ext (λ x. apply σ (μ x)) σ (m.general σ (λ x. (s.1.ground x).0) s.1.unifies) left.cells))
 
@@ -125,14 +138,14 @@ module _ (sig : List ℕ) (M : Meaning) (left right : Description) (a : ProperPa
           h s.0 (λ x. (s.1.ground x).0) (solves_here s.0 s.1) (subst (AllByRecursion (λ k. Satisfies M k.condition (s.0 k.variable))) (sym ki) s.1.meets)
       told (Some c) h =
           let u : sequence (replacements sig cells n c.bindings) ≡ unifier sig left right c.bindings =
-          ap (λ (cs : List Cell). sequence (replacements sig cs n c.bindings)) is
-          ∙ ap (λ (m : ℕ). sequence (replacements sig (pair left.cells right.cells) m c.bindings)) at_n in
+          ap (λ (cs : List Cell). sequence (replacements sig cs n c.bindings)) two.is
+          ∙ ap (λ (m : ℕ). sequence (replacements sig (pair left.cells right.cells) m c.bindings)) two.at_n in
           let general : MostGeneral sig (sequence (replacements sig cells n c.bindings)) left.cells (map shifted right.cells) =
-          found sig left.cells right.cells cells use_left use_right is before behind (replacements sig cells n c.bindings) blank_before merged_here h.0 in
+          found sig left.cells right.cells cells use_left use_right two.is before behind (replacements sig cells n c.bindings) blank_before merged_here h.0 in
           let general_named : MostGeneral sig (unifier sig left right c.bindings) left.cells (map shifted right.cells) =
           subst (λ (μ : Subst). MostGeneral sig μ left.cells (map shifted right.cells)) u general in
           record {
-            within = subst₂ (λ (k m : ℕ). AllByRecursion (WithinPatterns k m) c.bindings) at_n right_cells h.1;
+            within = subst₂ (λ (k m : ℕ). AllByRecursion (WithinPatterns k m) c.bindings) two.at_n right_cells h.1;
             general = general_named;
             every = every (unifier sig left right c.bindings) general_named;
             sampled = sampled (unifier sig left right c.bindings) c.sample (subst (λ (μ : Subst). Drawn sig M cells behind ks μ c.sample) u h.2);

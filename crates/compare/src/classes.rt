@@ -2,19 +2,16 @@
 ghost use Rattle.std.specs.Prelude.{◌≡◌, ℕ, ◌<◌, ◌≤◌, length, Decides, MatchOption};
 ghost use Rattle.lists.specs.Lists.{items};
 ghost use Rattle.kinds.specs.Common.{Met};
-ghost use Rattle.unification.specs.Sheets.{Good, Straight};
 ghost use Rattle.compare.specs.Roots.{RootOf, root_at, constraint_at, class_conditions};
 ghost use Rattle.compare.specs.Settling.{WithinCells, Unmet, Settled};
 
-use crate::sheet::bound;
-use crate::walk::deref;
+use crate::walk::Bound;
 use kinds::common::smallest_value;
 use kinds::condition::Condition;
 use kinds::kind::Kind;
 use lists::up_to::UpTo;
 use terms::cell::Cell;
 use terms::constraint::{Constraint, NO_CONSTRAINT};
-use terms::signature::Signature;
 
 // What a variable stands for.
 #[derive(Clone, Copy)]
@@ -25,34 +22,29 @@ pub enum Root {
     Term(usize),
 }
 
-fn root_of(signature: &Signature, cells: &[Cell], sheet: &[Cell; 16], x: usize) -> Root
-    requires good { Good signature.now.arities cells.now }
-    requires straight { Straight cells.now sheet.now }
-    requires small { x < 16 }
-    ensures { RootOf signature.now.arities cells.now sheet.now x result }
-{
-    let Some(place) = bound(cells, sheet, x) else {
-        return Root::Variable(x);
-    };
-    let p = deref(signature, cells, sheet, place);
-    if cells[p].letter == b'V' {
-        Root::Variable(cells[p].number as usize)
-    } else {
-        Root::Term(p)
+impl Bound<'_> {
+    fn root_of(&self, x: usize) -> Root
+        requires { x < 16 }
+        ensures { RootOf self.now.terms.signature.now.arities self.now.terms.cells.now self.now.sheet.now x result }
+    {
+        let Some(place) = self.place(x) else {
+            return Root::Variable(x);
+        };
+        let p = self.deref(place);
+        let cell = self.terms.cells[p];
+        if cell.letter == b'V' {
+            Root::Variable(cell.number as usize)
+        } else {
+            Root::Term(p)
+        }
     }
-}
 
-// What each variable stands for.
-pub fn roots_of(signature: &Signature, cells: &[Cell], sheet: &[Cell; 16]) -> [Root; 16]
-    requires good { Good signature.now.arities cells.now }
-    requires straight { Straight cells.now sheet.now }
-    ensures { (x : ℕ) → x < 16 → RootOf signature.now.arities cells.now sheet.now x (root_at result x) }
-{
-    let mut roots = [Root::Term(0); 16];
-    for x in 0..16 {
-        roots[x] = root_of(signature, cells, sheet, x);
+    // What each variable stands for.
+    pub fn roots(&self) -> [Root; 16]
+        ensures { (x : ℕ) → x < 16 → RootOf self.now.terms.signature.now.arities self.now.terms.cells.now self.now.sheet.now x (root_at result x) }
+    {
+        std::array::from_fn(|x| self.root_of(x))
     }
-    roots
 }
 
 // The conditions on the variables that stand for the free variable y.
@@ -63,10 +55,9 @@ fn gather(constraints: &[Constraint], roots: &[Root; 16], y: usize) -> UpTo<Cond
 {
     let mut conditions = UpTo::new(NO_CONSTRAINT.condition);
     for constraint in constraints {
-        if let Root::Variable(z) = roots[constraint.variable as usize] {
-            if z == y {
-                conditions.push(constraint.condition);
-            }
+        let root = roots[constraint.variable as usize];
+        if matches!(root, Root::Variable(z) if z == y) {
+            conditions.push(constraint.condition);
         }
     }
     conditions

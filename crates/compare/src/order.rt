@@ -1,15 +1,13 @@
 // The bindings of a sheet, in an order in which they can be applied one after another.
 ghost use Rattle.std.specs.Prelude.{◌≡◌, ℕ, ◌+◌, ◌-◌, ◌<◌, ◌≤◌, false, length, MatchOption, nat_lt, slice_index_or};
 ghost use Rattle.std.specs.List.{AllByRecursion};
-ghost use Rattle.unification.specs.Sheets.{entry, Good, Straight};
+ghost use Rattle.unification.specs.Sheets.{entry};
 ghost use Rattle.unification.specs.Orders.{Ready, Within, Stuck, opens, Unsolved, Ordered};
 ghost use Rattle.compare.specs.Bindings.{joint, place_of, CellWithin, WithinPatterns, replacements};
 ghost use Rattle.compare.specs.Leaves.{IsLeaf};
 
 use crate::binding::{Binding, Side, TermPlace, Variable};
-use crate::sheet::bound;
-use terms::cell::Cell;
-use terms::signature::Signature;
+use crate::walk::{Bound, Terms};
 
 impl Variable {
     // The variable x, of which 8 to 15 are the right pattern's.
@@ -52,25 +50,6 @@ impl TermPlace {
     }
 }
 
-// Whether the term at `i` has no waiting variable.
-fn ready(signature: &Signature, cells: &[Cell], wait: [bool; 16], i: usize) -> bool
-    requires good { Good signature.now.arities cells.now }
-    requires within { i < length cells.now }
-    ensures { Ready signature.now.arities cells.now wait i result }
-{
-    let mut at = i;
-    let mut left = 1;
-    while left > 0 {
-        let c = cells[at];
-        if c.letter == b'V' && wait[c.number as usize] {
-            return false;
-        }
-        left = left - 1 + signature.arity(c);
-        at += 1;
-    }
-    true
-}
-
 // A bound variable whose term has no waiting variable.
 #[derive(Clone, Copy)]
 pub struct Leaf {
@@ -78,72 +57,69 @@ pub struct Leaf {
     pub place: usize,
 }
 
-// A waiting variable that is a leaf.
-fn choose(signature: &Signature, cells: &[Cell], sheet: &[Cell; 16], wait: [bool; 16]) -> Option<Leaf>
-    requires good { Good signature.now.arities cells.now }
-    requires bound { Within cells.now sheet.now wait }
-    ensures { MatchOption result (Stuck signature.now.arities cells.now sheet.now wait) (λ leaf. IsLeaf signature.now.arities cells.now sheet.now wait leaf) }
-{
-    for variable in 0..16 {
-        if wait[variable] {
-            if let Some(place) = bound(cells, sheet, variable) {
-                if ready(signature, cells, wait, place) {
-                    return Some(Leaf { variable, place });
+impl Terms<'_> {
+    // Whether the term at `i` has no waiting variable.
+    fn ready(&self, wait: [bool; 16], i: usize) -> bool
+        requires { i < length self.now.cells.now }
+        ensures { Ready self.now.signature.now.arities self.now.cells.now wait i result }
+    {
+        for cell in self.term(i) {
+            if cell.letter == b'V' && wait[cell.number as usize] {
+                return false;
+            }
+        }
+        true
+    }
+}
+
+impl Bound<'_> {
+    // A waiting variable that is a leaf.
+    fn leaf(&self, wait: [bool; 16]) -> Option<Leaf>
+        requires { Within self.now.terms.cells.now self.now.sheet.now wait }
+        ensures { let sig = self.now.terms.signature.now.arities in let cells = self.now.terms.cells.now in let sheet = self.now.sheet.now in MatchOption result (Stuck sig cells sheet wait) (λ leaf. IsLeaf sig cells sheet wait leaf) }
+    {
+        // not `find_map`: of a closure with several calls too little is known to tell what its `None` says
+        for variable in 0..16 {
+            if wait[variable] {
+                if let Some(place) = self.place(variable) {
+                    if self.terms.ready(wait, place) {
+                        return Some(Leaf { variable, place });
+                    }
                 }
             }
         }
+        None
     }
-    None
-}
 
-fn count(wait: [bool; 16]) -> usize
-    ensures { result ≡ opens wait }
-{
-    let mut n = 0;
-    for x in wait.iter() {
-        if *x {
-            n += 1;
+    // Which variables are bound.
+    fn bound(&self) -> [bool; 16]
+        ensures { (x : ℕ) → x < 16 → slice_index_or result x false ≡ nat_lt (entry self.now.sheet.now x) (length self.now.terms.cells.now) }
+    {
+        // not `from_fn`: its closure would have to be one call
+        let mut bound = [false; 16];
+        for x in 0..16 {
+            bound[x] = self.place(x).is_some();
         }
+        bound
     }
-    n
-}
 
-// Which variables are bound.
-fn bound_of(cells: &[Cell], sheet: &[Cell; 16]) -> [bool; 16]
-    requires few { length cells.now ≤ 48 }
-    ensures { (x : ℕ) → x < 16 → slice_index_or result x false ≡ nat_lt (entry sheet.now x) (length cells.now) }
-{
-    let mut wait = [false; 16];
-    for x in 0..16 {
-        wait[x] = bound(cells, sheet, x).is_some();
+    // The bindings, so that no variable stands in its own term or in a later one's; none if they go in a circle.
+    // `left` is the number of the left pattern's cells.
+    pub fn order(&self, left: usize) -> Option<[Option<Binding>; 16]>
+        ensures { let sig = self.now.terms.signature.now.arities in let cells = self.now.terms.cells.now in let sheet = self.now.sheet.now in MatchOption result (Unsolved sig cells sheet) (λ out. Ordered sig cells sheet (replacements sig cells left out) × AllByRecursion (WithinPatterns left (length cells - left)) out) }
+    {
+        let mut wait = self.bound();
+        let to_place = wait.iter().filter(|open| **open).count();
+        let mut out = [None; 16];
+        for k in (0..to_place).rev() {
+            let leaf = self.leaf(wait)?;
+            let binding = Binding {
+                variable: Variable::joint(leaf.variable),
+                term: TermPlace::joint(leaf.place, left),
+            };
+            out[k] = Some(binding);
+            wait[leaf.variable] = false;
+        }
+        Some(out)
     }
-    wait
-}
-
-// The bindings, so that no variable stands in its own term or in a later one's; none if they go in a circle.
-// `left` is the number of the left pattern's cells.
-pub fn order(
-    signature: &Signature,
-    cells: &[Cell],
-    sheet: &[Cell; 16],
-    left: usize,
-) -> Option<[Option<Binding>; 16]>
-    requires good { Good signature.now.arities cells.now }
-    requires straight { Straight cells.now sheet.now }
-    ensures { MatchOption result (Unsolved signature.now.arities cells.now sheet.now) (λ out. Ordered signature.now.arities cells.now sheet.now (replacements signature.now.arities cells.now left out) × AllByRecursion (WithinPatterns left (length cells.now - left)) out) }
-{
-    let mut wait = bound_of(cells, sheet);
-    let mut to_place = count(wait);
-    let mut out = [None; 16];
-    while to_place > 0 {
-        let leaf = choose(signature, cells, sheet, wait)?;
-        to_place -= 1;
-        let binding = Binding {
-            variable: Variable::joint(leaf.variable),
-            term: TermPlace::joint(leaf.place, left),
-        };
-        out[to_place] = Some(binding);
-        wait[leaf.variable] = false;
-    }
-    Some(out)
 }

@@ -12,13 +12,11 @@ ghost use Rattle.compare.specs.Bindings.{WithinPatterns, replacements};
 ghost use Rattle.compare.specs.Roots.{constraint_at};
 ghost use Rattle.compare.specs.Answers.{Unsampled, Drawn, CommonPart};
 
-use crate::classes::{roots_of, settle};
+use crate::classes::settle;
 use crate::join::join;
-use crate::order::order;
 use crate::sample::{Common, Sample};
 use crate::sheet::Guard;
-use crate::unify::unify;
-use crate::write::write;
+use crate::walk::{Bound, Terms};
 use kinds::kind::Kind;
 use terms::cell::{BLANK, Cell};
 use terms::constraint::Constraint;
@@ -26,34 +24,26 @@ use terms::pattern::Pattern;
 use terms::row::Row;
 use terms::signature::Signature;
 
-// Puts the bindings in order, settles the constraints and writes a sample of the term at 0.
-// `left` is the number of the left pattern's cells.
-fn finish<K: Kind>(
-    kind: &K,
-    signature: &Signature,
-    cells: &[Cell],
-    sheet: &[Cell; 16],
-    constraints: &[Constraint],
-    left: usize,
-) -> Option<Common>
-    requires good { Good signature.now.arities cells.now }
-    requires fine { AllByRecursion (Fine (K.Kind.means kind.now) 16) cells.now }
-    requires some { 0 < length cells.now }
-    requires straight { Straight cells.now sheet.now }
-    requires few { length constraints.now ≤ 16 }
-    requires named { (k : ℕ) → k < length constraints.now → (constraint_at constraints.now k).variable < 16 }
-    ensures { MatchOption result (Unsampled signature.now.arities (K.Kind.means kind.now) cells.now sheet.now constraints.now) (λ common. Ordered signature.now.arities cells.now sheet.now (replacements signature.now.arities cells.now left common.bindings) × AllByRecursion (WithinPatterns left (length cells.now - left)) common.bindings × Drawn signature.now.arities (K.Kind.means kind.now) cells.now sheet.now constraints.now (sequence (replacements signature.now.arities cells.now left common.bindings)) common.sample) }
-{
-    let bindings = order(signature, cells, sheet, left)?;
-    let roots = roots_of(signature, cells, sheet);
-    let fills = settle(kind, cells, &roots, constraints)?;
-    let mut row = [BLANK; 12];
-    let len = write(signature, cells, sheet, &fills, 0, 1, &mut row, 0);
-    let sample = Sample {
-        cells: row,
-        more: len > 12,
-    };
-    Some(Common { bindings, sample })
+impl Bound<'_> {
+    // Puts the bindings in order, settles the constraints and writes a sample of the term at 0.
+    // `left` is the number of the left pattern's cells.
+    fn finish<K: Kind>(&self, kind: &K, constraints: &[Constraint], left: usize) -> Option<Common>
+        requires fine { AllByRecursion (Fine (K.Kind.means kind.now) 16) self.now.terms.cells.now }
+        requires some { 0 < length self.now.terms.cells.now }
+        requires few { length constraints.now ≤ 16 }
+        requires named { (k : ℕ) → k < length constraints.now → (constraint_at constraints.now k).variable < 16 }
+        ensures { let sig = self.now.terms.signature.now.arities in let cells = self.now.terms.cells.now in let sheet = self.now.sheet.now in MatchOption result (Unsampled sig (K.Kind.means kind.now) cells sheet constraints.now) (λ common. Ordered sig cells sheet (replacements sig cells left common.bindings) × AllByRecursion (WithinPatterns left (length cells - left)) common.bindings × Drawn sig (K.Kind.means kind.now) cells sheet constraints.now (sequence (replacements sig cells left common.bindings)) common.sample) }
+    {
+        let bindings = self.order(left)?;
+        let fills = settle(kind, self.terms.cells, &self.roots(), constraints)?;
+        let mut row = [BLANK; 12];
+        let len = self.write(&fills, 0, 1, &mut row, 0);
+        let sample = Sample {
+            cells: row,
+            more: len > 12,
+        };
+        Some(Common { bindings, sample })
+    }
 }
 
 // The bindings and a sample of the rows that fit both patterns; none exactly if no row fits both.
@@ -71,14 +61,20 @@ pub fn overlap<K: Kind>(
     ensures blank { Blank sheet.new }
 {
     let joint = join(left, right);
-    let cells = joint.cells.as_slice();
-    let constraints = joint.constraints.as_slice();
+    let terms = Terms {
+        signature,
+        cells: joint.cells.as_slice(),
+    };
     *sheet = [BLANK; 16];
     let guard = Guard { sheet };
-    if !unify(signature, cells, guard.sheet, 0, joint.left, 1, [false; 16]) {
+    if !terms.unify(guard.sheet, 0, joint.left, 1, [false; 16]) {
         return None;
     }
-    finish(kind, signature, cells, guard.sheet, constraints, joint.left)
+    let bound = Bound {
+        terms,
+        sheet: &*guard.sheet,
+    };
+    bound.finish(kind, joint.constraints.as_slice(), joint.left)
 }
 
 // Whether the row fits the pattern: whether the two overlap, the row as a pattern without variables.

@@ -1,41 +1,82 @@
-// Ways through the cells: past a term, and from a bound variable to what it stands for.
-ghost use Rattle.std.specs.Prelude.{◌≡◌, ◌<◌, ◌≤◌, length, drop};
-ghost use Rattle.unification.specs.Fronts.{after};
-ghost use Rattle.unification.specs.Sheets.{Good, Straight, Derefs};
+// Terms that lie one behind the other, and ways through them: past a term, and from a bound variable to what it stands for.
+ghost use Rattle.std.specs.Prelude.{◌≡◌, ◌<◌, ◌≤◌, length, drop, MatchOption};
+ghost use Rattle.unification.specs.Fronts.{after, part};
+ghost use Rattle.unification.specs.Sheets.{Good, Straight, Derefs, entry};
+ghost use Rattle.unification.proofs.Theory.{good_prop};
 
-use crate::sheet::bound;
 use terms::cell::Cell;
 use terms::signature::Signature;
 
-// The place behind the term at `i`.
-pub fn skip(signature: &Signature, cells: &[Cell], i: usize) -> usize
-    requires good { Good signature.now.arities cells.now }
-    requires within { i < length cells.now }
-    ensures within { (i < result) × (result ≤ length cells.now) }
-    ensures rest { drop result cells.now ≡ after signature.now.arities 1 (drop i cells.now) }
-{
-    let mut at = i;
-    let mut left = 1;
-    while left > 0 {
-        left = left - 1 + signature.arity(cells[at]);
-        at += 1;
-    }
-    at
+// The cells of terms, under the arities of a signature.
+#[derive(Clone, Copy)]
+pub struct Terms<'a> {
+    pub signature: &'a Signature,
+    pub cells: &'a [Cell],
+    ghost good: { Good signature.now.arities cells.now } by { good_prop signature.now.arities cells.now },
 }
 
-// The place that the term at `i` stands for: a symbol, a value or a free variable.
-pub fn deref(signature: &Signature, cells: &[Cell], sheet: &[Cell; 16], i: usize) -> usize
-    requires good { Good signature.now.arities cells.now }
-    requires straight { Straight cells.now sheet.now }
-    requires within { i < length cells.now }
-    ensures { Derefs signature.now.arities cells.now sheet.now i result }
-{
-    let mut at = i;
-    while cells[at].letter == b'V' {
-        let Some(place) = bound(cells, sheet, cells[at].number as usize) else {
-            return at;
-        };
-        at = place;
+impl<'a> Terms<'a> {
+    // The place behind the term at `i`.
+    pub fn skip(&self, i: usize) -> usize
+        requires { i < length self.now.cells.now }
+        ensures within { (i < result) × (result ≤ length self.now.cells.now) }
+        ensures rest { drop result self.now.cells.now ≡ after self.now.signature.now.arities 1 (drop i self.now.cells.now) }
+    {
+        // not a `for`: it ends where no term is to come, which may be before the cells end
+        let mut at = i;
+        let mut left = 1;
+        while left > 0 {
+            left = left - 1 + self.signature.arity(self.cells[at]);
+            at += 1;
+        }
+        at
     }
-    at
+
+    // The cells of the term at `i`.
+    pub fn term(&self, i: usize) -> &'a [Cell]
+        requires { i < length self.now.cells.now }
+        ensures { result.now ≡ part self.now.signature.now.arities self.now.cells.now i 1 }
+    {
+        &self.cells[i..self.skip(i)]
+    }
+}
+
+// Terms whose variables are bound on a sheet.
+#[derive(Clone, Copy)]
+pub struct Bound<'a> {
+    pub terms: Terms<'a>,
+    pub sheet: &'a [Cell; 16],
+    ghost straight: { Straight terms.cells.now sheet.now },
+}
+
+impl Bound<'_> {
+    // The place of the term that the variable x is bound to; none if x is free.
+    pub fn place(&self, x: usize) -> Option<usize>
+        requires { x < 16 }
+        ensures { MatchOption result (length self.now.terms.cells.now ≤ entry self.now.sheet.now x) (λ p. (p ≡ entry self.now.sheet.now x) × (p < length self.now.terms.cells.now)) }
+    {
+        let found = self.sheet[x];
+        let place = found.number as usize;
+        if found.letter != b' ' && place < self.terms.cells.len() {
+            Some(place)
+        } else {
+            None
+        }
+    }
+
+    // The place that the term at `i` stands for: a symbol, a value or a free variable.
+    pub fn deref(&self, i: usize) -> usize
+        requires { i < length self.now.terms.cells.now }
+        ensures { Derefs self.now.terms.signature.now.arities self.now.terms.cells.now self.now.sheet.now i result }
+    {
+        let cells = self.terms.cells;
+        let mut at = i;
+        while cells[at].letter == b'V' {
+            let Some(place) = self.place(cells[at].number as usize) else {
+                return at;
+            };
+            at = place;
+        }
+        at
+    }
 }

@@ -1,7 +1,8 @@
 -- A sheet's bindings in line, and circles.
 use Rattle.std.proofs.Common.{◌≡◌, ℕ, zero, suc, ◌+◌, ◌-◌, ◌*◌, ◌<◌, ◌≤◌, Bool, true, false, cond, ltb, List, [], ◌∷◌, ◌++◌, length, get_or, drop, set, sym, refl, ap, ◌∙◌, subst, inl, inr, arith, length-append}
-use Rattle.std.proofs.lemmas.List.{drop_more, get_or-set_same, get_or-set_other}
-use Rattle.std.specs.List.{AllByRecursion}
+use Rattle.std.proofs.lemmas.List.{get_or-set_same, get_or-set_other}
+use Rattle.std.specs.List.{count_by, AllByRecursion}
+use Rattle.std.proofs.lemmas.List.Recursion.{is_count_by}
 use Rattle.std.proofs.lemmas.Bool.Decides.{eqb_tells}
 use Rattle.std.proofs.lemmas.Bool.{true≢false, false≢true, ltb-true, lt-ltb}
 use Rattle.terms.specs.declared.cell.Cell.{Cell}
@@ -159,25 +160,20 @@ placed_all sig cells sheet wait bs z p = record {
   drawn = p.drawn;
 }
 
--- a loop over the flags
-pub opens_step : (bs : List Bool) (x : ℕ) → x < length bs → opens (drop x bs) ≡ cond (get_or bs x false) 1 0 + opens (drop (x + 1) bs)
-opens_step bs x l = ap opens (drop_more bs x false l) ∙ opens_cons (get_or bs x false) (drop (x + 1) bs)
+-- the flags that are set, counted
+pub opens_counted : (bs : List Bool) → opens bs ≡ count_by (λ b. b) bs
+opens_counted = is_count_by opens (λ b. b) refl step
   where
-    opens_cons : (b : Bool) (ds : List Bool) → opens (b ∷ ds) ≡ cond b 1 0 + opens ds
-    opens_cons true ds = omega arith
-    opens_cons false ds = omega arith
+    step : (b : Bool) (bs : List Bool) → opens (b ∷ bs) ≡ cond b (1 + opens bs) (opens bs)
+    step true bs = omega arith
+    step false bs = refl
 
--- one cell of a term that is looked through
-pub lacks_more : (sig : List ℕ) (cells : List Cell) (i n y : ℕ) → Begins sig n (drop i cells) → 0 < n → ((at cells i).letter ≡ 86 → (at cells i).number ≡ y → ⊥)
-    → Lacks y (terms sig (n - 1 + arity sig (at cells i)) (drop (i + 1) cells)) → Lacks y (terms sig n (drop i cells))
-lacks_more sig cells i n y b pos h k = subst (Lacks y) (sym (step sig cells i n b pos).front) (h, k)
+-- cells that are looked through one after another
+pub lacks_all : (y : ℕ) (cs : List Cell) → ((k : ℕ) → k < length cs → (at cs k).letter ≡ 86 → (at cs k).number ≡ y → ⊥) → Lacks y cs
+lacks_all y [] h = tt
+lacks_all y (c ∷ cs) h = (h 0 (omega arith), lacks_all y cs (λ k l. h (suc k) (omega arith)))
 
-pub has_more : (sig : List ℕ) (cells : List Cell) (i n y : ℕ) → Begins sig n (drop i cells) → 0 < n
-    → Has y (terms sig (n - 1 + arity sig (at cells i)) (drop (i + 1) cells)) → Has y (terms sig n (drop i cells))
-has_more sig cells i n y b pos h = subst (Has y) (sym (step sig cells i n b pos).front) (inr h)
-
-pub has_here : (sig : List ℕ) (cells : List Cell) (i n : ℕ) → Begins sig n (drop i cells) → 0 < n → (at cells i).letter ≡ 86 → Has (at cells i).number (terms sig n (drop i cells))
-has_here sig cells i n b pos v = subst (Has (at cells i).number) (sym (step sig cells i n b pos).front) (inl (v, refl))
-
-pub lacks_none : (sig : List ℕ) (cs : List Cell) (n y : ℕ) → n ≡ 0 → Lacks y (terms sig n cs)
-lacks_none sig cs n y z = subst (Lacks y) (sym (ap (λ (m : ℕ). terms sig m cs) z ∙ terms_none sig cs)) tt
+pub has_at : (cs : List Cell) (k : ℕ) → k < length cs → (at cs k).letter ≡ 86 → Has (at cs k).number cs
+has_at [] k l v = absurd (omega arith)
+has_at (c ∷ cs) zero l v = inl (v, refl)
+has_at (c ∷ cs) (suc k) l v = inr (has_at cs k (omega arith) v)

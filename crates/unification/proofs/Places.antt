@@ -1,5 +1,6 @@
 -- Terms at places of a list of cells.
-use Rattle.std.proofs.Common.{◌≡◌, ℕ, zero, suc, ◌+◌, ◌-◌, ◌<◌, ◌≤◌, Bool, true, false, List, [], ◌∷◌, ◌++◌, length, get_or, drop, set, sym, refl, ap, ◌∙◌, subst, inl, inr, append-nil, arith, length-drop}
+use Rattle.std.proofs.Common.{◌≡◌, ℕ, zero, suc, ◌+◌, ◌-◌, ◌<◌, ◌≤◌, Bool, true, false, List, [], ◌∷◌, ◌++◌, length, get_or, take, drop, set, sym, refl, ap, ◌∙◌, subst, inl, inr, append-nil, arith, length-append, length-drop}
+use Rattle.std.proofs.Math.Seq.{take-append_seam}
 use Rattle.std.proofs.lemmas.List.{drop_more, drop-drop, get_or-set_same, get_or-set_other}
 use Rattle.std.proofs.lemmas.Bool.Decides.{eqb_tells}
 use Rattle.std.proofs.lemmas.Bool.{true≢false}
@@ -7,7 +8,7 @@ use Rattle.terms.specs.declared.cell.Cell.{Cell}
 use Rattle.terms.specs.Terms.{arity, Subst, image, apply}
 use Rattle.unification.specs.Fronts.{Begins, terms, after, at, part}
 use Rattle.unification.specs.Sheets.{Good, entry_for, place_in, entry, Sol, Straight, Rooted, Derefs, Level, Merged}
-use Rattle.unification.proofs.Theory.{begins_length, begins_front, begins_after, terms_more, terms_none, arity_var, image_var, image_fix}
+use Rattle.unification.proofs.Theory.{begins_length, begins_front, begins_after, terms_after, terms_more, terms_none, arity_var, image_var, image_fix}
 
 -- the first cell of n terms at a place
 pub record Step (sig : List ℕ) (cells : List Cell) (i n : ℕ) : Type 0 where
@@ -203,3 +204,11 @@ begins_args sig cells p k g l e =
     let s = step sig cells p 1 (g.whole p l) (omega arith) in
     let z : 1 - 1 + arity sig (at cells p) ≡ k = omega (arith, e) in
     subst (λ (m : ℕ). Begins sig m (drop (p + 1) cells)) z s.begins
+
+-- a part, from a place to the place behind it
+pub part_to : (sig : List ℕ) (cells : List Cell) (i u : ℕ) → i < u → u ≤ length cells → drop u cells ≡ after sig 1 (drop i cells) → take (u - i) (drop i cells) ≡ part sig cells i 1
+part_to sig cells i u l m e =
+    let p : List Cell = part sig cells i 1 in
+    let whole : p ++ drop u cells ≡ drop i cells = ap (λ zs. p ++ zs) e ∙ terms_after sig 1 (drop i cells) in
+    let n : u - i ≡ length p = omega (arith, ap length whole, length-append p (drop u cells), length-drop u cells, length-drop i cells) in
+    ap (λ (k : ℕ). take k (drop i cells)) n ∙ ap (take (length p)) (sym whole) ∙ take-append_seam p (drop u cells)

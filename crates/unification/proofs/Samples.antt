@@ -6,10 +6,10 @@ use Rattle.terms.specs.declared.cell.Cell.{Cell}
 use Rattle.terms.specs.Terms.{arity, Are, Subst, image, apply}
 use Rattle.unification.specs.Fronts.{Begins, at, part}
 use Rattle.unification.specs.Unifiers.{Assign}
-use Rattle.unification.specs.Sheets.{Derefs}
+use Rattle.unification.specs.Sheets.{Good, Sol, Derefs}
 use Rattle.unification.specs.Samples.{Wrote}
 use Rattle.unification.proofs.Theory.{arity_var, image_var, image_fix, are_apply, terms_are}
-use Rattle.unification.proofs.Places.{step, part_var, begins_first}
+use Rattle.unification.proofs.Places.{step, part_var, part_fix, begins_first}
 
 pub wrote_none : (before : List Cell) (place : ℕ) → length before ≡ 12 → place ≤ 12 → Wrote [] before before place place
 wrote_none before place l h =
@@ -113,3 +113,12 @@ var_of sig cells sheet i p d v = elim (eqb_tells p i) [
   | inl e ↦ ap (λ (k : ℕ). (at cells k).letter) (sym e.1) ∙ v
   | inr e ↦ d.moved e.1
 ]
+
+-- the term that a place stands for: its head, and then its arguments
+pub wrote_head : (sig : List ℕ) (cells sheet : List Cell) (i p k place r : ℕ) (before behind : List Cell) (σ : Subst) → Good sig cells → Derefs sig cells sheet i p → ((at cells p).letter ≡ 86 → ⊥)
+    → k ≡ arity sig (at cells p) → Sol sig cells sheet σ → length before ≡ 12 → place < 12 → Wrote (apply σ (part sig cells (p + 1) k)) (set before place (at cells p)) behind (place + 1) r
+    → Wrote (apply σ (part sig cells i 1)) before behind place r
+wrote_head sig cells sheet i p k place r before behind σ g d v z s l h w =
+    let e : apply σ (part sig cells i 1) ≡ at cells p ∷ apply σ (part sig cells (p + 1) k) =
+    d.means σ s ∙ part_fix sig cells p σ (g.whole p d.rooted.0) v ∙ ap (λ (m : ℕ). at cells p ∷ apply σ (part sig cells (p + 1) m)) (sym z) in
+    subst (λ xs. Wrote xs before behind place r) (sym e) (wrote_cell (at cells p) (apply σ (part sig cells (p + 1) k)) before behind place r l h w)

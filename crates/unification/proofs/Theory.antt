@@ -3,10 +3,12 @@ use Rattle.std.proofs.Common.{◌≡◌, ℕ, zero, suc, ◌+◌, ◌<◌, ◌�
 use mathlib.Core.Path.{fun_ext}
 use Rattle.std.proofs.lemmas.Bool.Decides.{eqb_tells}
 use Rattle.std.proofs.lemmas.Bool.{eq-eqb, ne_eqb}
+use Rattle.std.proofs.Props.{props}
 use Rattle.terms.specs.declared.cell.Cell.{Cell}
 use Rattle.terms.specs.Terms.{arity, Are, Subst, image, apply}
 use Rattle.unification.specs.Fronts.{Begins, terms, after}
 use Rattle.unification.specs.Unifiers.{Assign, var, Unifies, MostGeneral, Replacement, single, sequence}
+use Rattle.unification.specs.Sheets.{Good}
 use Rattle.unification.specs.Sequences.{Lacks, Apart, Proper, Solves}
 
 -- reading
@@ -230,3 +232,12 @@ most_general sig bs s t p f g = record {
 -- size: a variable's cells stand within those of a term that has it
 pub apply_length : (σ : Subst) (c : Cell) (cs : List Cell) → length (apply σ (c ∷ cs)) ≡ length (image σ c) + length (apply σ cs)
 apply_length σ c cs = length-append (image σ c) (apply σ cs)
+
+-- that cells begin with n terms, and that cells are good, is shown in one way at most
+begins_prop : (sig : List ℕ) (n : ℕ) (cs : List Cell) → IsProp (Begins sig n cs)
+begins_prop sig n [] = hlevel props
+begins_prop sig zero (c ∷ cs) = hlevel props
+begins_prop sig (suc n) (c ∷ cs) = begins_prop sig (arity sig c + n) cs
+
+pub good_prop : (sig : List ℕ) (cells : List Cell) → IsProp (Good sig cells)
+good_prop sig cells = hlevel (props, begins_prop)
