@@ -1,9 +1,5 @@
--- The steps by which numbers are read and written.
-use Rattle.std.specs.Prelude.{ℕ, ◌+◌, ◌-◌, ◌%◌, cond, ◌==◌, nat_lt}
-
--- the last digit of what is left of a number, or a space where nothing is left
-abbrev pub mark : ℕ → ℕ
-mark rest = cond (rest == 0) 32 (48 + rest % 10)
+-- The step by which numbers are read.
+use Rattle.std.specs.Prelude.{ℕ, ◌-◌, cond, nat_lt}
 
 -- what a byte is worth: a digit its number, and any other byte nothing
 abbrev pub worth : ℕ → ℕ

@@ -6,19 +6,12 @@ ghost use Rattle.columns.specs.Columns.{blank};
 pub fn is_blank(part: &[u8]) -> bool
     ensures { Decides result (part.now ≡ blank (length part.now)) }
 {
-    for b in part {
-        if *b != b' ' {
-            return false;
-        }
-    }
-    true
+    part.iter().all(|b| *b == b' ')
 }
 
 // Makes every byte a space.
 pub fn write_blank(part: &mut [u8])
     ensures { part.new ≡ blank (length part.old) }
 {
-    for b in part.iter_mut() {
-        *b = b' ';
-    }
+    part.fill(b' ');
 }

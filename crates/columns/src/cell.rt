@@ -11,13 +11,10 @@ pub fn read_cell(part: &[u8]) -> Option<Cell>
     if part.len() != 10 {
         return None;
     }
-    match read_number(&part[1..10]) {
-        Some(number) => Some(Cell {
-            letter: part[0],
-            number,
-        }),
-        None => None,
-    }
+    Some(Cell {
+        letter: part[0],
+        number: read_number(&part[1..10])?,
+    })
 }
 
 // Writes a cell into ten columns; refused where they are not ten, or the number has more than nine digits.

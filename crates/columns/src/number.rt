@@ -2,52 +2,40 @@
 ghost use Rattle.std.specs.Prelude.{◌≡◌, ◌+◌, ◌*◌, ◌/◌, ◌%◌, ◌^◌, ◌<◌, ◌≤◌, map, length, decimal, Decides, MatchOption};
 ghost use Rattle.std.specs.Int.Digits.{number_from_digits as number_of};
 ghost use Rattle.columns.specs.Columns.{columns, Reads, Writes};
-ghost use Rattle.columns.specs.Steps.{mark, worth};
+ghost use Rattle.columns.specs.Steps.{worth};
+ghost use Rattle.lists.specs.Lists.{items};
+
+use crate::blank::is_blank;
+use lists::up_to::UpTo;
 
 // The columns are too few for what is to be written.
 #[derive(Clone, Copy, PartialEq, Eq, Debug)]
 pub struct NoRoom;
 
-// The digit that ends what is left of a number, or a space where nothing is left.
-fn mark_of(rest: u32) -> u8
-    ensures { result ≡ mark rest }
+// The digits of a number, at most ten.
+fn digits(n: u32) -> UpTo<u8, 10>
+    ensures { items result ≡ decimal n }
 {
-    if rest == 0 {
-        b' '
+    let mut text = if n < 10 {
+        UpTo::new(b'0')
     } else {
-        b'0' + (rest % 10) as u8
-    }
-}
-
-// How many digits a number has.
-fn width_of(n: u32) -> usize
-    ensures value { result ≡ length (decimal n) }
-    ensures some { 0 < result }
-{
-    let mut rest = n / 10;
-    let mut width: usize = 1;
-    while rest > 0 {
-        rest /= 10;
-        width += 1;
-    }
-    width
+        digits(n / 10)
+    };
+    text.push(b'0' + (n % 10) as u8);
+    text
 }
 
 // Writes a number to the right, after spaces; refused where it has more digits than there are columns.
 pub fn write_number(n: u32, part: &mut [u8]) -> Result<(), NoRoom>
     ensures { Writes (decimal n) part.old part.new result }
 {
-    if part.len() < width_of(n) {
+    let text = digits(n);
+    if part.len() < text.len() {
         return Err(NoRoom);
     }
-    let mut i = part.len() - 1;
-    part[i] = b'0' + (n % 10) as u8;
-    let mut rest = n / 10;
-    while i > 0 {
-        i -= 1;
-        part[i] = mark_of(rest);
-        rest /= 10;
-    }
+    let before = part.len() - text.len();
+    part[..before].fill(b' ');
+    part[before..].copy_from_slice(text.as_slice());
     Ok(())
 }
 
@@ -55,34 +43,17 @@ pub fn write_number(n: u32, part: &mut [u8]) -> Result<(), NoRoom>
 fn shows(n: u32, part: &[u8]) -> bool
     ensures { Decides result (part.now ≡ columns (length part.now) n) }
 {
-    if part.len() < width_of(n) {
-        return false;
-    }
-    let mut i = part.len() - 1;
-    if part[i] != b'0' + (n % 10) as u8 {
-        return false;
-    }
-    let mut rest = n / 10;
-    while i > 0 {
-        i -= 1;
-        if part[i] != mark_of(rest) {
-            return false;
-        }
-        rest /= 10;
-    }
-    true
+    let text = digits(n);
+    part.strip_suffix(text.as_slice()).is_some_and(is_blank)
 }
 
 // What a digit is worth; any other byte is worth nothing.
 fn worth_of(b: u8) -> u32
     ensures { result ≡ worth b }
 {
-    if b < b'0' {
-        0
-    } else if b < b'9' + 1 {
-        u32::from(b - b'0')
-    } else {
-        0
+    match b {
+        b'0'..=b'9' => u32::from(b - b'0'),
+        _ => 0,
     }
 }
 
@@ -90,14 +61,11 @@ fn worth_of(b: u8) -> u32
 fn loose(part: &[u8]) -> Option<u32>
     ensures { MatchOption result (2 ^ 32 ≤ number_of 10 (map worth part.now)) (λ n. n ≡ number_of 10 (map worth part.now)) }
 {
-    let mut n: u64 = 0;
+    let mut n: u32 = 0;
     for b in part {
-        n = n * 10 + u64::from(worth_of(*b));
-        if n > 4_294_967_295 {
-            return None;
-        }
+        n = n.checked_mul(10)?.checked_add(worth_of(*b))?;
     }
-    Some(n as u32)
+    Some(n)
 }
 
 // The number below 4,294,967,296 that the columns show, or absent where they show none.
@@ -105,5 +73,5 @@ pub fn read_number(part: &[u8]) -> Option<u32>
     ensures { Reads part.now result }
 {
     let n = loose(part)?;
-    if shows(n, part) { Some(n) } else { None }
+    shows(n, part).then_some(n)
 }

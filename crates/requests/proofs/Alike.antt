@@ -1,7 +1,7 @@
 -- Lines that are alike, their first columns, and their ends.
 use Rattle.std.proofs.Common.{◌≡◌, ℕ, zero, suc, ◌+◌, ◌-◌, ◌<◌, ◌≤◌, Bool, true, false, cond, eqb, List, [], ◌∷◌, ◌++◌, length, get_or, take, drop, sym, refl, ap, ◌∙◌, ⊎_elim, arith}
 use native.Mathlib.Numerals.{unary_clauses}
-use Rattle.std.proofs.lemmas.List.{length-append, length-replicate, length-take-le, length-drop, get_or-take, get_or-drop, get_or_past, ext_get_or, take_at, drop_at}
+use Rattle.std.proofs.lemmas.List.{length-append, length-replicate, length-take-le, length-drop, get_or-take, get_or-drop, get_or_past, get_or_default, ext_get_or, take_at, drop_at}
 use Rattle.std.proofs.lemmas.Bool.{cases_eq, cases_lt, eq-eqb, ne_eqb}
 use Rattle.columns.specs.Columns.{blank}
 use Rattle.requests.specs.Lines.{Alike, front, before, trim}
@@ -97,17 +97,32 @@ unfolding trim
 trim_marked [] = λ h _. absurd (omega arith)
 trim_marked (b ∷ s) = before_marked b (trim s) (trim_marked s)
 
--- where the blanks at the end begin
-pub trim_is : (s : List ℕ) (n : ℕ) → n ≤ length s → ((k : ℕ) → n ≤ k → get_or s k 32 ≡ 32) → (0 < n → get_or s (n - 1) 32 ≡ 32 → ⊥) → take n s ≡ trim s
-trim_is s n h blanks last =
-    let l = length-take-le n s h in
-    marked_same (take n s) (trim s)
-    (λ k e. last (omega arith) (sym (get_or-take n s (n - 1) 32 (omega arith)) ∙ ap (λ m. get_or (take n s) (m - 1) 32) (sym l) ∙ e))
-    (trim_marked s)
+-- lines that are alike are the same without the blanks at their ends
+pub trim_same : (x y : List ℕ) → Alike x y → trim x ≡ trim y
+trim_same x y e = marked_same (trim x) (trim y) (trim_marked x) (trim_marked y) (λ i. trim_alike x i ∙ e i ∙ sym (trim_alike y i))
+
+-- a blank at the end goes
+pub trim_last : (s : List ℕ) → 0 < length s → get_or s (length s - 1) 0 ≡ 32 → trim (take (length s - 1) s) ≡ trim s
+trim_last s h e =
+    let l = length-take-le (length s - 1) s (omega arith) in
+    trim_same (take (length s - 1) s) s
     (λ i. ⊎_elim
-    (λ lt. get_or-take n s i 32 lt)
-    (λ ge. get_or_past (take n s) i 32 (omega arith) ∙ sym (blanks i ge))
-    (cases_lt i n) ∙ sym (trim_alike s i))
+    (λ lt. get_or-take (length s - 1) s i 32 lt)
+    (λ ge. get_or_past (take (length s - 1) s) i 32 (omega arith) ∙ ⊎_elim
+    (λ q. sym (ap (λ k. get_or s k 32) q ∙ get_or_default s (length s - 1) 32 0 (omega arith) ∙ e))
+    (λ d. sym (get_or_past s i 32 (omega arith)))
+    (cases_eq i (length s - 1)))
+    (cases_lt i (length s - 1)))
+
+-- and what ends in no blank stays
+pub trim_whole : (s : List ℕ) → Marked s → s ≡ trim s
+trim_whole s m = marked_same s (trim s) m (trim_marked s) (λ i. sym (trim_alike s i))
+
+pub trim_front : (s : List ℕ) → take (length (trim s)) s ≡ trim s
+trim_front s =
+    let n = not_longer s (trim s) (trim_marked s) (λ i. sym (trim_alike s i)) in
+    let l = length-take-le (length (trim s)) s n in
+    ext_get_or 32 (take (length (trim s)) s) (trim s) l (λ i h. get_or-take (length (trim s)) s i 32 (omega arith) ∙ sym (trim_alike s i))
 
 pub first_columns : (w : ℕ) (line p q : List ℕ) → length p ≡ w → Alike line (p ++ q) → front w line ≡ p
 first_columns w line p q l e = alike_front w line (p ++ q) e ∙ front_at w p q l

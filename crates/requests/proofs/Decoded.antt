@@ -12,14 +12,10 @@ use Rattle.requests.specs.declared.word.Word.{Word}
 use Rattle.requests.specs.declared.word.Word.TheVariants.{Begin, Reserve, Look, Survey, Write, Strike, Commit, Abandon, Tally}
 use Rattle.requests.specs.Lines.{Alike, front, field}
 use Rattle.requests.specs.Layout.{Ask, Fields, fields, shown, word_text, Laid, Shows}
+use Rattle.requests.specs.Fields.{Room}
 use Rattle.requests.specs.Steps.{ask_of, guessed}
 use Rattle.requests.proofs.Alike.{get_d_front, first_columns, next_columns, alike_drop}
 use Rattle.requests.proofs.Groups.{cells_room, groups_room, groups_same, split_back}
-
--- there is room for a number, if there is one
-abbrev pub Room : Option ℕ → Type 0
-Room None = Unit {0}
-Room (Some n) = n < 10 ^ 7
 
 pub record Fits (f : Fields) : Type 0 where
   pub first : Room f.first

@@ -1,9 +1,10 @@
 -- Groups of ten columns: they are read one by one, and what columns show is one list at most.
-use Rattle.std.proofs.Common.{◌≡◌, ℕ, ◌+◌, ◌-◌, ◌<◌, ◌≤◌, cond, eqb, List, [], ◌∷◌, ◌++◌, length, get_or, take, drop, sym, refl, ap, ◌∙◌, subst, arith}
-use Rattle.std.specs.List.{flat_map, AllByRecursion}
+use Rattle.std.proofs.Common.{◌≡◌, ℕ, suc, Bool, true, false, ⊎_elim, min, ◌+◌, ◌/◌, ◌<◌, cond, eqb, ltb, Some, None, unwrap_or, map, List, [], ◌∷◌, ◌++◌, length, get_or, take, drop, sym, refl, ap, ◌∙◌, subst, arith}
+use Rattle.std.specs.List.{flat_map, AllByRecursion, position, position_or_len}
+use Rattle.std.specs.Simd.{first_chunks}
 use Rattle.std.proofs.ByRecursion.{All-append}
-use Rattle.std.proofs.lemmas.List.{append-nil, append_assoc, take_at, drop_at, drop_more, length-drop, nil_from_length}
-use Rattle.std.proofs.lemmas.Bool.{eq-eqb, ne_eqb}
+use Rattle.std.proofs.lemmas.List.{append-nil, append_assoc, take_at, drop_at, drop_all, length-append, nil_from_length, get_or_past, get_or_append_left}
+use Rattle.std.proofs.lemmas.Bool.{cases_eq, cases_lt, eq-eqb, ne_eqb, lt-ltb, le-ltb}
 use Rattle.terms.specs.Fitting.{Description}
 use Rattle.terms.specs.declared.cell.Cell.{Cell}
 use Rattle.terms.specs.declared.constraint.Constraint.{Constraint}
@@ -12,7 +13,7 @@ use Rattle.columns.proofs.Cells.{cell_length, cell_same, cell_marked}
 use Rattle.requests.specs.Lines.{Alike, front}
 use Rattle.requests.specs.Layout.{three, groups_of, LaidCell, LaidConstraint}
 use Rattle.requests.specs.Steps.{start, condition_of, conditions, split}
-use Rattle.requests.proofs.Alike.{Marked, marked_none, drop_marked, first_columns, next_columns}
+use Rattle.requests.proofs.Alike.{Marked, front_is, front_length, get_d_front, marked_none, drop_marked, first_columns, next_columns}
 
 abbrev shown : List Cell → List ℕ
 shown gs = flat_map cell_text gs
@@ -62,6 +63,24 @@ left_next from rest rest' done g some d reads w = record {
           λ i. ap (λ t. get_or t i 32) d ∙ next_groups rest h more s.0 a i,
           e ∙ ap (λ k. done ++ (k ∷ more)) (sym same) ∙ sym (append_assoc done (g ∷ []) more),
         )
+
+-- a group more is read
+pub left_chunk : (from rest x rest' : List ℕ) (done : List Cell) (g : Cell) (n : ℕ) → n ≡ 10 → rest ≡ x ++ rest' → length x ≡ min n (length rest) → 0 < length rest
+    → ((c : Cell) → Short c → front 10 x ≡ cell_text c → g ≡ c) → Left from rest done → Left from rest' (done ++ (g ∷ []))
+left_chunk from rest x rest' done g n ten cut long some reads w =
+    let l : length x + length rest' ≡ length rest = sym (ap length cut ∙ length-append x rest') in
+    let same : front 10 rest ≡ front 10 x =
+    front_is 10 x (front 10 rest) (front_length 10 rest)
+    (λ i h. get_d_front 10 rest i h ∙ ap (λ t. get_or t i 32) cut ∙ ⊎_elim
+    (λ lt. get_or_append_left x rest' 32 i lt)
+    (λ ge. get_or_past (x ++ rest') i 32 (omega (arith, length-append x rest')) ∙ sym (get_or_past x i 32 ge))
+    (cases_lt i (length x))) in
+    let off : rest' ≡ drop 10 rest =
+    ⊎_elim
+    (λ lt. nil_from_length rest' (omega arith) ∙ sym (drop_all 10 rest (omega arith)))
+    (λ ge. sym (ap (drop 10) cut ∙ drop_at x rest' 10 (omega arith)))
+    (cases_lt (length x) 10) in
+    left_next from rest rest' done g some off (λ c h e. reads c h (sym same ∙ e)) w
 
 pub left_last : (from rest : List ℕ) (done : List Cell) → length rest ≡ 0 → Left from rest done → (gs : List Cell) → AllByRecursion Short gs → Alike from (shown gs) → done ≡ gs
 left_last from rest done none w gs s a = let o = w.others gs s a in go o.0 o.1 o.2 o.3
@@ -116,52 +135,36 @@ condition_room (k ∷ ks) t = (t.0.1, (t.0.2, (t.0.3, condition_room ks t.1)))
 pub groups_room : (d : Description) → AllByRecursion LaidCell d.cells → AllByRecursion LaidConstraint d.constraints → AllByRecursion Short (groups_of d)
 groups_room d s t = All-append Short d.cells (flat_map three d.constraints) (cells_room d.cells s) (condition_room d.constraints t)
 
--- the steps by which the conditions are found
-start_step : (gs : List Cell) (i : ℕ) (d : Cell) → 0 < i → i < length gs → start (drop (i - 1) gs) ≡ cond (eqb (get_or gs i d).letter 32) 0 (1 + start (drop i gs))
+-- where the conditions begin, and what they are
+abbrev pub no_group : Cell
+no_group = record { letter = 32; number = 0 }
+
+later : (k n : ℕ) → unwrap_or (cond (ltb (1 + k) (suc n)) (Some (1 + k)) None) (suc (suc n)) ≡ 1 + unwrap_or (cond (ltb k n) (Some k) None) (suc n)
+later k n = ⊎_elim (λ l. at true (lt-ltb k n l) (lt-ltb (1 + k) (suc n) (omega arith))) (λ g. at false (le-ltb k n g) (le-ltb (1 + k) (suc n) (omega arith))) (cases_lt k n)
+  where
+    at : (b : Bool) → ltb k n ≡ b → ltb (1 + k) (suc n) ≡ b → unwrap_or (cond (ltb (1 + k) (suc n)) (Some (1 + k)) None) (suc (suc n)) ≡ 1 + unwrap_or (cond (ltb k n) (Some k) None) (suc n)
+    at true e f = rw (e, f)
+    at false e f = rw (e, f) (omega arith)
+
+pub start_is : (gs : List Cell) → unwrap_or (position (λ g. eqb g.letter 32) (drop 1 gs)) (length gs) ≡ start gs
 unfolding start
-start_step gs i d p h =
-    let e : i - 1 + 1 ≡ i = omega arith in
-    let more : drop i gs ≡ get_or gs i d ∷ drop (i + 1) gs = drop_more gs i d h in
-    ap start (drop_more gs (i - 1) d (omega arith) ∙ ap (λ k. get_or gs (i - 1) d ∷ drop k gs) e ∙ ap (λ t. get_or gs (i - 1) d ∷ t) more)
-    ∙ ap (λ t. cond (eqb (get_or gs i d).letter 32) 0 (1 + start t)) (sym more)
+start_is [] = refl
+start_is (g ∷ []) = refl
+start_is (g ∷ (h ∷ gs)) =
+    ⊎_elim (λ e. at (start_is (h ∷ gs)) true (eq-eqb h.letter 32 e)) (λ d. at (start_is (h ∷ gs)) false (ne_eqb h.letter 32 d)) (cases_eq h.letter 32)
+  where
+    at : unwrap_or (position (λ g. eqb g.letter 32) gs) (length (h ∷ gs)) ≡ start (h ∷ gs) → (b : Bool) → eqb h.letter 32 ≡ b → unwrap_or (position (λ g. eqb g.letter 32) (h ∷ gs)) (length (g ∷ (h ∷ gs))) ≡ cond (eqb h.letter 32) 0 (1 + start (h ∷ gs))
+    at i true e = rw (e, lt-ltb 0 (suc (length gs)) (omega arith))
+    at i false e = rw e (later (position_or_len (λ g. eqb g.letter 32) gs) (length gs) ∙ ap (λ s. 1 + s) i)
 
-start_one : (gs : List Cell) → length gs ≤ 1 → start gs ≡ length gs
-unfolding start
-start_one [] h = refl
-start_one (g ∷ []) h = refl
-start_one (g ∷ (k ∷ gs)) h = absurd (omega arith)
+abbrev pub of_three : List Cell → Constraint
+of_three gs = condition_of (get_or gs 0 no_group) (get_or gs 1 no_group) (get_or gs 2 no_group)
 
-pub start_last : (gs : List Cell) (i : ℕ) → 0 < i → i ≤ length gs + 1 → length gs ≤ i → i - 1 + start (drop (i - 1) gs) ≡ length gs
-start_last gs i p q h =
-    let l = length-drop (i - 1) gs in
-    let o = start_one (drop (i - 1) gs) (omega arith) in
-    omega arith
-
-pub conditions_step : (gs : List Cell) (i : ℕ) (d : Cell) → i + 2 < length gs → conditions (drop i gs) ≡ condition_of (get_or gs i d) (get_or gs (i + 1) d) (get_or gs (i + 2) d) ∷ conditions (drop (i + 3) gs)
+pub conditions_are : (gs : List Cell) → map of_three (first_chunks 3 (length gs / 3) gs) ≡ conditions gs
 unfolding conditions
-conditions_step gs i d h =
-    let e : i + 1 + 1 ≡ i + 2 = omega arith in
-    let f : i + 2 + 1 ≡ i + 3 = omega arith in
-    ap conditions (
-    drop_more gs i d (omega arith)
-    ∙ ap (λ t. get_or gs i d ∷ t) (
-    drop_more gs (i + 1) d (omega arith)
-    ∙ ap (λ t. get_or gs (i + 1) d ∷ t) (ap (λ k. drop k gs) e ∙ drop_more gs (i + 2) d h ∙ ap (λ k. get_or gs (i + 2) d ∷ drop k gs) f)
-    )
-    )
-
-few : (gs : List Cell) → length gs ≤ 2 → conditions gs ≡ []
-unfolding conditions
-few [] h = refl
-few (g ∷ []) h = refl
-few (g ∷ (k ∷ [])) h = refl
-few (g ∷ (k ∷ (l ∷ gs))) h = absurd (omega arith)
-
-pub conditions_last : (gs : List Cell) (i : ℕ) → length gs ≤ i + 2 → conditions (drop i gs) ≡ []
-conditions_last gs i h = let l = length-drop i gs in few (drop i gs) (omega arith)
-
-pub start_blank : (gs : List Cell) (i : ℕ) (d : Cell) → 0 < i → i < length gs → (get_or gs i d).letter ≡ 32 → start (drop (i - 1) gs) ≡ 0
-start_blank gs i d p h e = start_step gs i d p h ∙ ap (λ b. cond b 0 (1 + start (drop i gs))) (eq-eqb (get_or gs i d).letter 32 e)
-
-pub start_letter : (gs : List Cell) (i : ℕ) (d : Cell) → 0 < i → i < length gs → ((get_or gs i d).letter ≡ 32 → ⊥) → start (drop (i - 1) gs) ≡ 1 + start (drop i gs)
-start_letter gs i d p h e = start_step gs i d p h ∙ ap (λ b. cond b 0 (1 + start (drop i gs))) (ne_eqb (get_or gs i d).letter 32 e)
+conditions_are [] = refl
+conditions_are (f ∷ []) = refl
+conditions_are (f ∷ (a ∷ [])) = refl
+conditions_are (f ∷ (a ∷ (b ∷ gs))) =
+    let e : length (f ∷ (a ∷ (b ∷ gs))) / 3 ≡ suc (length gs / 3) = omega arith in
+    ap (λ n. map of_three (first_chunks 3 n (f ∷ (a ∷ (b ∷ gs))))) e ∙ ap (λ t. condition_of f a b ∷ t) (conditions_are gs)

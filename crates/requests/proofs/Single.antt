@@ -11,7 +11,7 @@ use Rattle.requests.specs.declared.word.Word.{Word}
 use Rattle.requests.specs.declared.word.Word.TheVariants.{Begin, Reserve, Look, Survey, Write, Strike, Commit, Abandon, Tally}
 use Rattle.requests.specs.Lines.{field}
 use Rattle.requests.specs.Layout.{Ask, Fields, fields, shown, text, three, word_text, Laid, LaidCell, LaidConstraint}
-use Rattle.requests.proofs.Decoded.{Room}
+use Rattle.requests.specs.Fields.{Room}
 
 abbrev Plain : List ℕ → Type 0
 Plain = AllByRecursion (λ b. b ≡ 10 → ⊥)

@@ -4,7 +4,7 @@ ghost use Rattle.std.specs.List.{flat_map};
 ghost use Rattle.requests.specs.Answers.{answer_text, group_text, sample_text, word_field};
 ghost use Rattle.requests.specs.Lines.{trim};
 
-use crate::lines::{after, trimmed_len};
+use crate::lines::{after, trimmed};
 use crate::push::{push_blank, push_cell, push_columns, push_field};
 use crate::word::Word;
 use compare::sample::Sample;
@@ -88,7 +88,7 @@ pub fn write_answer(line: &AnswerLine, out: &mut Vec<u8>) -> Result<(), AllocErr
 {
     let from = out.len();
     push_answer(out, line)?;
-    let len = trimmed_len(after(out, from));
+    let len = trimmed(after(out, from)).len();
     out.truncate(from + len);
     out.push(b'\n')?;
     Ok(())

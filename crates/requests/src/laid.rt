@@ -1,14 +1,15 @@
 // Whether there is room for a request in its columns.
 ghost use Rattle.std.specs.Prelude.{Decides};
 ghost use Rattle.std.specs.List.{AllByRecursion};
+ghost use Rattle.requests.specs.Fields.{Room, Roomy};
 ghost use Rattle.requests.specs.Layout.{Laid, LaidCell, LaidConstraint, asked_of};
 
-use crate::request::Request;
+use crate::request::{Request, RequestLine};
 use terms::cell::Cell;
 use terms::constraint::Constraint;
 
 // The numbers below these have room in seven and in nine columns.
-const SEVEN: u32 = 10_000_000;
+const SEVEN: u64 = 10_000_000;
 
 const NINE: u32 = 1_000_000_000;
 
@@ -21,12 +22,7 @@ fn is_laid_cell(cell: Cell) -> bool
 fn are_laid_cells(cells: &[Cell]) -> bool
     ensures { Decides result (AllByRecursion LaidCell cells.now) }
 {
-    for cell in cells {
-        if !is_laid_cell(*cell) {
-            return false;
-        }
-    }
-    true
+    cells.iter().all(|cell| is_laid_cell(*cell))
 }
 
 fn is_laid_constraint(constraint: Constraint) -> bool
@@ -43,41 +39,29 @@ fn is_laid_constraint(constraint: Constraint) -> bool
 fn are_laid_constraints(constraints: &[Constraint]) -> bool
     ensures { Decides result (AllByRecursion LaidConstraint constraints.now) }
 {
-    for constraint in constraints {
-        if !is_laid_constraint(*constraint) {
-            return false;
-        }
-    }
-    true
+    constraints
+        .iter()
+        .all(|constraint| is_laid_constraint(*constraint))
+}
+
+fn has_room(number: Option<u64>) -> bool
+    ensures { Decides result (Room number) }
+{
+    number.is_none_or(|n| n < SEVEN)
+}
+
+fn is_roomy(line: RequestLine<'_>) -> bool
+    ensures { Decides result (Roomy line.entry) }
+{
+    has_room(line.first)
+        && has_room(line.second)
+        && line.right != b'\n'
+        && are_laid_cells(line.cells)
+        && are_laid_constraints(line.constraints)
 }
 
 pub fn is_laid(request: &Request) -> bool
     ensures { Decides result (Laid (asked_of request.now)) }
 {
-    match request {
-        Request::Begin { planner } => *planner < SEVEN,
-        Request::Reserve {
-            transaction,
-            right,
-            cells,
-            constraints,
-        } => *transaction < SEVEN
-            && *right != b'\n'
-            && are_laid_cells(cells)
-            && are_laid_constraints(constraints),
-        Request::Look { transaction, cells } => *transaction < SEVEN && are_laid_cells(cells),
-        Request::Survey {
-            transaction,
-            reservation,
-        } => *transaction < SEVEN && *reservation < SEVEN,
-        Request::Write {
-            transaction,
-            cells,
-            count,
-        } => *transaction < SEVEN && are_laid_cells(cells) && *count < SEVEN,
-        Request::Strike { transaction, cells } => *transaction < SEVEN && are_laid_cells(cells),
-        Request::Commit { transaction } => *transaction < SEVEN,
-        Request::Abandon { transaction } => *transaction < SEVEN,
-        Request::Tally => true,
-    }
+    is_roomy(request.line())
 }

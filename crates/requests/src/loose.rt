@@ -1,13 +1,13 @@
 // What a line asks, if it is laid out: nothing is checked here, since what is read is written again and compared.
-ghost use Rattle.std.specs.Prelude.{◌≡◌, ℕ, ◌^◌, ◌<◌, ◌≤◌, List, length, IfOk, Some};
+ghost use Rattle.std.specs.Prelude.{◌≡◌, ℕ, ◌^◌, ◌<◌, ◌≤◌, List, length, IfOk, Some, slice_index_or};
 ghost use Rattle.std.specs.List.{flat_map, AllByRecursion};
 ghost use Rattle.columns.specs.Columns.{cell_text, columns, Short};
 ghost use Rattle.requests.specs.Layout.{Ask, Shows, asked_of};
 ghost use Rattle.requests.specs.Lines.{Alike, front};
-ghost use Rattle.requests.specs.Steps.{ask_of, conditions, split, start};
+ghost use Rattle.requests.specs.Steps.{ask_of, condition_of, conditions, split, start};
 ghost use Rattle.serial.specs.History.{Call.reserve};
 
-use crate::lines::{after, byte_at, copy_front, trimmed_len};
+use crate::lines::{after, byte_at, front, trimmed};
 use crate::request::Request;
 use crate::word::Word;
 use columns::cell::read_cell;
@@ -21,24 +21,14 @@ use terms::constraint::Constraint;
 fn number_in(line: &[u8]) -> u32
     ensures { (n : ℕ) → n < 10 ^ 7 → front 7 line.now ≡ columns 7 n → result ≡ n }
 {
-    let mut part = [b' '; 7];
-    copy_front(line, &mut part);
-    match read_number(&part) {
-        Some(n) => n,
-        None => 0,
-    }
+    read_number(&front::<7>(line)).unwrap_or(0)
 }
 
 // The group in the first ten columns.
 fn group_in(line: &[u8]) -> Cell
     ensures { (c : Cell) → Short c → front 10 line.now ≡ cell_text c → result ≡ c }
 {
-    let mut part = [b' '; 10];
-    copy_front(line, &mut part);
-    match read_cell(&part) {
-        Some(cell) => cell,
-        None => BLANK,
-    }
+    read_cell(&front::<10>(line)).unwrap_or(BLANK)
 }
 
 // The groups in a line.
@@ -46,10 +36,8 @@ fn groups_in(heap: Global, line: &[u8]) -> Result<Vec<Cell>, AllocError>
     ensures { IfOk result (λ v. (gs : List Cell) → AllByRecursion Short gs → Alike line.now (flat_map cell_text gs) → v.items ≡ gs) }
 {
     let mut groups = Vec::new(heap);
-    let mut rest = &line[..trimmed_len(line)];
-    while !rest.is_empty() {
-        groups.push(group_in(rest))?;
-        rest = after(rest, 10);
+    for group in trimmed(line).chunks(10) {
+        groups.push(group_in(group))?;
     }
     Ok(groups)
 }
@@ -59,32 +47,34 @@ fn conditions_start(groups: &[Cell]) -> usize
     ensures value { result ≡ start groups.now }
     ensures within { result ≤ length groups.now }
 {
-    for i in 1..groups.len() {
-        if groups[i].letter == b' ' {
-            return i - 1;
-        }
+    groups
+        .iter()
+        .skip(1)
+        .position(|group| group.letter == b' ')
+        .unwrap_or(groups.len())
+}
+
+// The condition of three groups.
+fn condition_of(groups: &[Cell; 3]) -> Constraint
+    ensures { result ≡ condition_of (slice_index_or groups.now 0 BLANK) (slice_index_or groups.now 1 BLANK) (slice_index_or groups.now 2 BLANK) }
+{
+    let [form, a, b] = groups;
+    Constraint {
+        variable: form.number,
+        condition: Condition {
+            form: form.letter,
+            a: a.number,
+            b: b.number,
+        },
     }
-    groups.len()
 }
 
 // The conditions in groups of three.
 fn conditions_in(heap: Global, groups: &[Cell]) -> Result<Vec<Constraint>, AllocError>
     ensures { IfOk result (λ v. v.items ≡ conditions groups.now) }
 {
-    let mut found = Vec::new(heap);
-    let mut i = 0;
-    while i + 2 < groups.len() {
-        found.push(Constraint {
-            variable: groups[i].number,
-            condition: Condition {
-                form: groups[i].letter,
-                a: groups[i + 1].number,
-                b: groups[i + 2].number,
-            },
-        })?;
-        i += 3;
-    }
-    Ok(found)
+    let (threes, _) = groups.as_chunks();
+    threes.iter().map(condition_of).collect(heap)
 }
 
 // A reserve, of cells and then conditions.
@@ -118,7 +108,7 @@ fn request_in(
 {
     Ok(match word {
         Word::Begin => Request::Begin { planner: first },
-        Word::Reserve => return reserve_in(heap, first, right, &groups),
+        Word::Reserve => reserve_in(heap, first, right, &groups)?,
         Word::Look => Request::Look {
             transaction: first,
             cells: groups,
@@ -149,13 +139,12 @@ pub fn guess_request(heap: Global, line: &[u8]) -> Result<Request, AllocError>
     let groups = groups_in(heap, after(line, 23))?;
     let first = number_in(after(line, 8));
     let second = number_in(after(line, 15));
-    let request = request_in(
+    request_in(
         heap,
         Word::guess(line),
         first,
         second,
         byte_at(line, 22),
         groups,
-    )?;
-    Ok(request)
+    )
 }

@@ -6,16 +6,14 @@ ghost use Rattle.requests.specs.Layout.{three};
 ghost use Rattle.requests.specs.Lines.{field};
 
 use std::alloc::AllocError;
+use std::iter;
 use terms::cell::Cell;
 use terms::constraint::Constraint;
 
 pub fn push_blank(out: &mut Vec<u8>, width: usize) -> Result<(), AllocError>
     ensures { OnOk result (out.new.items ≡ out.old.items ++ blank width) }
 {
-    for _ in 0..width {
-        out.push(b' ')?;
-    }
-    Ok(())
+    out.extend(iter::repeat_n(b' ', width))
 }
 
 // A number to the right of some columns; one that is too long has as many as it needs.
@@ -50,6 +48,7 @@ pub fn push_cell(out: &mut Vec<u8>, cell: Cell) -> Result<(), AllocError>
     Ok(())
 }
 
+// Cells, conditions and the groups of a sample each have a loop: a trait for what has columns would be longer than the three.
 pub fn push_cells(out: &mut Vec<u8>, cells: &[Cell]) -> Result<(), AllocError>
     ensures { OnOk result (out.new.items ≡ out.old.items ++ flat_map cell_text cells.now) }
 {

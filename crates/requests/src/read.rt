@@ -27,9 +27,5 @@ pub fn read_request(heap: Global, line: &[u8]) -> Result<Option<Request>, AllocE
     ensures { IfOk result (λ o. Reads line.now (option_map asked_of o)) }
 {
     let request = guess_request(heap, line)?;
-    if shows(heap, line, &request)? {
-        Ok(Some(request))
-    } else {
-        Ok(None)
-    }
+    Ok(shows(heap, line, &request)?.then_some(request))
 }

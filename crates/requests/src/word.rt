@@ -5,7 +5,7 @@ ghost use Rattle.requests.specs.Steps.{guessed};
 
 use crate::lines::byte_at;
 
-#[derive(Clone, Copy)]
+#[derive(Clone, Copy, PartialEq, Eq, Debug)]
 pub enum Word {
     Begin,
     Reserve,

@@ -53,13 +53,7 @@ impl Roll {
         requires { self.now.len ≤ length memory.now }
         ensures { Decides result (Has E.Owned.owned owner (take self.now.len memory.now)) }
     {
-        let entries = self.entries(memory);
-        for e in entries {
-            if e.owner() == owner {
-                return true;
-            }
-        }
-        false
+        self.entries(memory).iter().any(|e| e.owner() == owner)
     }
 
     // How many entries have this owner.
@@ -67,14 +61,10 @@ impl Roll {
         requires { self.now.len ≤ length memory.now }
         ensures { result ≡ count_by (λ e. nat_eq (E.Owned.owned e) owner) (take self.now.len memory.now) }
     {
-        let mut number = 0;
-        let entries = self.entries(memory);
-        for e in entries {
-            if e.owner() == owner {
-                number += 1;
-            }
-        }
-        number
+        self.entries(memory)
+            .iter()
+            .filter(|e| e.owner() == owner)
+            .count()
     }
 
     // All entries of an owner leave; the others keep their order.
@@ -84,6 +74,7 @@ impl Roll {
         ensures kept { take self.new.len memory.new ≡ without E.Owned.owned owner (take self.old.len memory.old) }
     {
         let n = self.len;
+        // by index, since the entries are read and written in one slice, which has no `retain`
         let mut k = 0;
         for i in 0..n {
             let e = memory[i];

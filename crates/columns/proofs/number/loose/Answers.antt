@@ -1,4 +1,4 @@
-use Rattle.std.proofs.Common.{◌≡◌, ℕ, ◌+◌, ◌*◌, ◌<◌, List, map, length, get_or, take, ap, ◌∙◌, arith}
+use Rattle.std.proofs.Common.{◌≡◌, ℕ, ◌+◌, ◌*◌, ◌<◌, List, map, length, get_or, take, refl, ap, ◌∙◌, arith}
 use Rattle.std.specs.Int.Digits.{number_from_digits}
 use Rattle.std.proofs.lemmas.Int.Digits.{number_more}
 use Rattle.std.proofs.lemmas.List.{length-map, get_or-map, take_all}
@@ -13,23 +13,28 @@ next s i n d h e w =
     let g = get_or-map worth s i 0 0 h in
     omega arith
 
-pub returns-then-n-gt4294967295 : goal.returns-then-n-gt4294967295
-returns-then-n-gt4294967295 c =
+pub returns-in_err-checked_mul : goal.returns-in_err-checked_mul
+returns-in_err-checked_mul c =
     let s = c.args.part.now in
     let i = c.loop-b.b-index in
-    let m = next s i c.loop-b.n c.worth_of.result c.loop-b-test.true c.loop-b.invariant.0 c.worth_of.ensures in
+    let m = next s i c.loop-b.n _ c.loop-b-test.true c.loop-b.invariant refl in
     let f = front_number (map worth s) (i + 1) in
-    omega arith
+    rw c.from_residual.ensures (omega (arith, c.in_err-checked_mul.ensures))
+
+pub returns-in_err-n : goal.returns-in_err-n
+returns-in_err-n c =
+    let s = c.args.part.now in
+    let i = c.loop-b.b-index in
+    let m = next s i c.loop-b.n c.worth_of.result c.loop-b-test.true c.loop-b.invariant c.worth_of.ensures in
+    let f = front_number (map worth s) (i + 1) in
+    rw c.from_residual-in_err-n.ensures (omega (arith, c.in_err-n.ensures, c.in_ok-checked_mul.ensures))
 
 pub loop-b-preserved : goal.loop-b-preserved
 loop-b-preserved c =
-    let s = c.args.part.now in
-    let i = c.loop-b.b-index in
-    let m = next s i c.loop-b.n c.worth_of.result c.loop-b-test.true c.loop-b.invariant.0 c.worth_of.ensures in
-    (omega arith, omega arith)
+    let m = next c.args.part.now c.loop-b.b-index c.loop-b.n c.worth_of.result c.loop-b-test.true c.loop-b.invariant c.worth_of.ensures in
+    omega (arith, c.in_ok-n.ensures, c.in_ok-checked_mul.ensures)
 
 pub returns : goal.returns
 returns c =
     let s = c.args.part.now in
-    let e = c.loop-b.invariant.0 ∙ ap (number_from_digits 10) (take_all c.loop-b.b-index (map worth s) (omega (arith, length-map s worth))) in
-    e
+    c.loop-b.invariant ∙ ap (number_from_digits 10) (take_all c.loop-b.b-index (map worth s) (omega (arith, length-map s worth)))

@@ -1,7 +1,8 @@
-use Rattle.std.proofs.Common.{◌≡◌, ℕ, ◌^◌, ◌<◌, List, map, length, sym, ap, ◌∙◌, arith}
+use Rattle.std.proofs.Common.{◌≡◌, ℕ, ◌^◌, ◌<◌, Bool, true, false, List, map, length, Decides, sym, refl, ap, ◌∙◌, arith}
+use Rattle.std.specs.Bool.{then_some}
 use Rattle.std.specs.Int.Digits.{number_from_digits}
-use Rattle.std.proofs.lemmas.Bool.{both_ways}
-use Rattle.columns.specs.Columns.{columns}
+use Rattle.std.proofs.lemmas.Bool.{false≢true}
+use Rattle.columns.specs.Columns.{columns, Reads}
 use Rattle.columns.specs.Steps.{worth}
 use Rattle.columns.proofs.Numbers.{reads_back}
 use Rattle.columns.proofs.number.read_number.Goals as goal
@@ -15,7 +16,9 @@ returns-in_err-n c =
     rw c.from_residual.ensures
     (λ n h s. let e = back c.args.part.now n h s in let l = c.in_err-n.ensures in omega arith)
 
-pub returns-else-shows : goal.returns-else-shows
-returns-else-shows c n h s =
-    let same : n ≡ c.in_ok-n.n = back c.args.part.now n h s ∙ sym c.in_ok-n.ensures in
-    both_ways c.shows.result c.if-shows.false (c.shows.ensures.1 (s ∙ ap (columns (length c.args.part.now)) same))
+read : (part : List ℕ) (n : ℕ) (b : Bool) → n ≡ number_from_digits 10 (map worth part) → Decides b (part ≡ columns (length part) n) → Reads part (then_some b n)
+read part n true e d = d.0 refl
+read part n false e d = λ m h s. let same : m ≡ n = back part m h s ∙ sym e in false≢true (d.1 (s ∙ ap (columns (length part)) same))
+
+pub returns : goal.returns
+returns c = rw c.then_some.ensures (read c.args.part.now c.in_ok-n.n c.shows.result c.in_ok-n.ensures c.shows.ensures)

@@ -1,32 +1,32 @@
-use Rattle.std.proofs.Common.{length, get_or, take, vec_items, sym, ap, ◌∙◌, subst, arith, true-eqb, false-eqb}
-use Rattle.std.proofs.lemmas.List.{length-drop, length-take-le}
+use Rattle.std.proofs.Common.{◌≡◌, get_or, vec_items, sym, ap, ◌∙◌, subst}
+use Rattle.std.specs.Slice.Iter.{chunks_rest, chunks_size}
+use Rattle.requests.specs.Lines.{trim}
 use Rattle.requests.proofs.Alike.{Marked, trim_alike, trim_marked}
-use Rattle.requests.proofs.Groups.{Left, left_first, left_next, left_last}
+use Rattle.requests.proofs.Groups.{Left, left_first, left_chunk, left_last}
 use Rattle.requests.proofs.loose.groups_in.Goals as goal
 
-pub slice_bounds-rest-end : goal.slice_bounds-rest-end
-slice_bounds-rest-end c = sym (length-take-le c.trimmed_len.result c.args.line.now c.trimmed_len.ensures.within)
-
-pub loop-rest-init : goal.loop-rest-init
-loop-rest-init c =
+pub loop-group-init : goal.loop-group-init
+loop-group-init c =
     let line = c.args.line.now in
-    let rest = take c.trimmed_len.result line in
-    let e = c.trimmed_len.ensures.value in
-    subst (Left line rest) (sym c.new-groups.ensures.items)
-    (left_first line rest (subst Marked (sym e) (trim_marked line)) (λ i. ap (λ t. get_or t i 32) e ∙ trim_alike line i))
+    let it = c.into_iter-group-iterator.result in
+    let from = c.into_iter-group-iterator.ensures.into_iter_gives in
+    let e : chunks_rest it ≡ trim line = ap chunks_rest from ∙ c.chunks-group-items.ensures.rest ∙ c.trimmed.ensures in
+    record {
+      ten = ap chunks_size from ∙ c.chunks-group-items.ensures.size;
+      left = subst (Left line (chunks_rest it)) (sym c.new-groups.ensures.items)
+          (left_first line (chunks_rest it) (subst Marked (sym e) (trim_marked line)) (λ i. ap (λ t. get_or t i 32) e ∙ trim_alike line i));
+    }
 
-pub loop-rest-preserved : goal.loop-rest-preserved
-loop-rest-preserved c =
+pub loop-group-preserved : goal.loop-group-preserved
+loop-group-preserved c =
     let line = c.args.line.now in
-    let rest = c.loop-rest.rest.now in
-    subst (Left line c.after-rest.result.now) (sym c.in_ok-push.ensures.items)
-    (left_next line rest c.after-rest.result.now (vec_items c.loop-rest.groups) c.group_in.result (omega (arith, false-eqb _ _ c.loop-rest-test.ensures)) c.after-rest.ensures c.group_in.ensures c.loop-rest.invariant)
-
-pub loop-rest-smaller : goal.loop-rest-smaller
-loop-rest-smaller c =
-    let rest = c.loop-rest.rest.now in
-    let e = ap length c.after-rest.ensures ∙ length-drop 10 rest in
-    omega (arith, false-eqb _ _ c.loop-rest-test.ensures)
+    let s = c.in-Some.ensures.steps in
+    record {
+      ten = s.0 ∙ c.loop-group.invariant.ten;
+      left = subst (Left line (chunks_rest c.next.new.self)) (sym c.in_ok-push.ensures.items)
+          (left_chunk line (chunks_rest c.loop-group.group-iterator) c.in-Some.group.now (chunks_rest c.next.new.self) (vec_items c.loop-group.groups) c.group_in.result _
+          c.loop-group.invariant.ten s.1.0 s.1.1 s.1.2 c.group_in.ensures c.loop-group.invariant.left);
+    }
 
 pub returns : goal.returns
-returns c gs short a = left_last c.args.line.now c.loop-rest.rest.now (vec_items c.loop-rest.groups) (true-eqb _ _ c.loop-rest-test.ensures) c.loop-rest.invariant gs short a
+returns c gs short a = left_last c.args.line.now (chunks_rest c.loop-group.group-iterator) (vec_items c.loop-group.groups) c.in-None.ensures.steps.1.0 c.loop-group.invariant.left gs short a

@@ -1,9 +1,7 @@
-use Rattle.std.proofs.Common.{length, vec_items}
+use Rattle.std.proofs.Common.{◌≡◌, vec_items}
+use Rattle.std.specs.Slice.Iter.{chunks_rest, chunks_size}
 use Rattle.requests.proofs.Groups.{Left}
 use Rattle.requests.proofs.loose.groups_in.Given as goal
 
-abbrev pub invariant-loop-rest : goal.invariant-loop-rest
-invariant-loop-rest l = Left l.line l.rest (vec_items l.groups)
-
-abbrev pub decreases-loop-rest : goal.decreases-loop-rest
-decreases-loop-rest l = length l.rest
+abbrev pub invariant-loop-group : goal.invariant-loop-group
+invariant-loop-group l = record { ten : chunks_size l.group-iterator ≡ 10; left : Left l.line (chunks_rest l.group-iterator) (vec_items l.groups) }

@@ -1,6 +1,7 @@
 use Rattle.std.proofs.Common.{◌≡◌, ◌+◌, ◌-◌, ◌/◌, ◌%◌, [], ◌∷◌, ◌++◌, vec_items, sym, ap, ◌∙◌, arith}
 use Rattle.columns.specs.Columns.{blank, columns}
-use Rattle.requests.proofs.Pushes.{columns_digit, columns_step, onto}
+use Rattle.columns.proofs.Numbers.{columns_digit, columns_step}
+use Rattle.requests.proofs.Pushes.{onto}
 use Rattle.requests.proofs.push.+push_columns.Goals as goal
 use Rattle.requests.proofs.push.+push_columns.Goals.{then-n-lt10+in_ok-push_blank, else-n-lt10+in_ok-push_columns}
 

@@ -1,20 +1,23 @@
-use Rattle.std.proofs.Common.{◌≡◌, sym, refl, ◌∙◌, subst}
-use Rattle.maps.specs.Maps.{In}
-use Rattle.rolls.proofs.Entries.{at_in, none_more}
+use Rattle.std.proofs.Common.{ℕ, eqb, List, [], ◌∷◌, Decides, sym, refl, ap, ◌∙◌, inl, inr, ⊎_elim, subst, rules, tests}
+use Rattle.std.specs.List.{list_any}
+use Rattle.std.proofs.lemmas.Bool.{false≢true}
+use Rattle.std.proofs.lemmas.Bool.Decides.{Decides-eqb, Decides-or, Decides-like, Decides-at}
+use Rattle.std.proofs.lemmas.Iterator.{YieldsList-from_slice}
+use Rattle.std.proofs.lemmas.Iterator.Search.{any_from_yields_List}
+use Rattle.rolls.specs.Rolls.{Has}
 use Rattle.rolls.proofs.roll.Roll.has.Goals as goal
 
-pub returns-then-owner : goal.returns-then-owner
-returns-then-owner g c = (
-  (λ _. (
-    c.e-item.result,
-    subst (λ l. In c.e-item.result l) c.entries-entries.ensures
-        (subst (λ x. In x c.entries-entries.result.now) (sym c.e-item.is) (at_in c.entries-entries.result.now c.loop-e.e-index c.e-item.result c.loop-e-test.true)),
-    sym c.owner.ensures ∙ c.if-owner.true,
-  )),
-  λ _. refl,
-)
+-- a test of each entry finds the owner where an entry has it
+found : {E : Type 0} (owned : E → ℕ) (owner : ℕ) (xs : List E) → Decides (list_any (λ e. eqb (owned e) owner) xs) (Has owned owner xs)
+found owned owner [] = (λ e. absurd (false≢true e), λ h. absurd h.1)
+found owned owner (x ∷ xs) =
+    Decides-like _
+    (⊎_elim (λ p. (x, inl refl, p)) (λ h. (h.0, inr h.1, h.2)))
+    (λ h. ⊎_elim (λ e. inl (ap owned (sym e) ∙ h.2)) (λ n. inr (h.0, n, h.2)) h.1)
+    (Decides-or _ _ (Decides-eqb (owned x) owner) (found owned owner xs))
 
-pub loop-e-preserved : goal.loop-e-preserved
-loop-e-preserved g c =
-    none_more (λ x. g.E.Owned.owned x ≡ c.args.owner) c.entries-entries.result.now c.loop-e.e-index c.e-item.result c.loop-e-test.true c.e-item.is
-    c.loop-e.invariant (λ e. c.if-owner.false (c.owner.ensures ∙ e))
+pub returns : goal.returns
+returns g c =
+    let owned = g.E.Owned.owned in
+    let e = any_from_yields_List (λ e. eqb (owned e) c.args.owner) _ _ c.any.result c.any.ensures.ran (YieldsList-from_slice c.entries.result.now c.iter.ensures.rest) (λ x b q k. search (rules, tests)) in
+    subst (λ l. Decides c.any.result (Has owned c.args.owner l)) c.entries.ensures (Decides-at _ _ e (found owned c.args.owner c.entries.result.now))
