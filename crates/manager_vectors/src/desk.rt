@@ -108,13 +108,18 @@ pub fn play_under(
     calls: &[Call],
 ) -> Result<Vec<u8>, AllocError> {
     let heap = rt.alloc();
-    let Some(mut rolls) = Rolls::new() else {
+    let Some(Rolls {
+        mut transactions,
+        mut reservations,
+        changes: mut pending,
+    }) = Rolls::new()
+    else {
         return Ok(Vec::new(heap));
     };
     let mut memory = Memory {
-        transactions: &mut rolls.transactions,
-        reservations: &mut rolls.reservations,
-        changes: &mut rolls.changes[..changes.min(128)],
+        transactions: &mut transactions,
+        reservations: &mut reservations,
+        changes: &mut pending[..changes.min(128)],
     };
     let mut records = [Record::Free; 2];
     let Ok(mut table) = Table::new(&mut records) else {

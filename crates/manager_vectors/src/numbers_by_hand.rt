@@ -37,11 +37,15 @@ fn begin_often<K: Kind>(
 
 // What one more begin with so many reserves stops, after so many of them.
 fn last_number(times: u32, reserves: u32) -> Option<Result<(), ManagerFault>> {
-    let mut rolls = Rolls::new()?;
+    let Rolls {
+        mut transactions,
+        mut reservations,
+        mut changes,
+    } = Rolls::new()?;
     let mut memory = Memory {
-        transactions: &mut rolls.transactions,
-        reservations: &mut rolls.reservations,
-        changes: &mut rolls.changes,
+        transactions: &mut transactions,
+        reservations: &mut reservations,
+        changes: &mut changes,
     };
     let mut manager = Manager::new(Number, arities(), &memory).ok()?;
     begin_often(&mut manager, &mut memory, times, reserves).ok()?;
