@@ -6,48 +6,40 @@ mod notation;
 mod overlaps;
 mod words;
 
-use anyhow::anyhow;
-use kinds::bank::{ALL_KINDS, AllKinds};
+use anyhow::{Context, bail};
+use kinds::bank::ALL_KINDS;
 use kinds::common;
 use kinds::common::Value;
 use kinds::condition::Condition;
+use kinds::fault::BankFault;
 use kinds::kind::Kind;
 use notation::{Unread, Written};
 use refusals::Fault;
-use std::io;
+use std::{io, iter};
+use telling::model::ARITIES;
 use terms::constraint::Constraint;
 use terms::fault::PatternFault;
 use terms::pattern::Pattern;
 use terms::signature::Signature;
 use words::Spoken;
 
-// The arities of the model base: a count has four arguments, a turn two, an opposite arm one.
-const ARITIES: [u8; 32] = [
-    0, 4, 2, 1, 0, 0, 0, 0, 0, 0, 0, 0, 0, 0, 0, 0, 0, 0, 0, 0, 0, 0, 0, 0, 0, 0, 0, 0, 0, 0, 0, 0,
-];
-
 // How many values of a set are listed one by one.
-const LISTED: u32 = 12;
+const LISTED: usize = 12;
 
 // The first values of the condition's set, and how many more there are up to the top of its letter.
 fn list_values(rt: &HostRuntime, condition: Condition) -> io::Result<()> {
-    let kind = ALL_KINDS;
-    let Some(letter) = kind.letter(condition) else {
+    let Some(letter) = ALL_KINDS.letter(condition) else {
         return println!(rt; "    nothing is known of this condition");
     };
-    let mut from = 0;
-    for _ in 0..LISTED {
-        let Some(code) = kind.next(condition, from) else {
-            return Ok(());
-        };
+    let first = ALL_KINDS.next(condition, 0);
+    let mut codes = iter::successors(first, |code| {
+        ALL_KINDS.next(condition, code.checked_add(1)?)
+    });
+    for code in codes.by_ref().take(LISTED) {
         let value = Spoken(Value { letter, code });
         println!(rt; "    {value}")?;
-        let Some(next) = code.checked_add(1) else {
-            return Ok(());
-        };
-        from = next;
     }
-    match kind.next(condition, from) {
+    match codes.next() {
         Some(_) => println!(rt; "    and more"),
         None => Ok(()),
     }
@@ -64,12 +56,11 @@ fn list_constraint(rt: &HostRuntime, constraint: Constraint) -> io::Result<()> {
 
 // The smallest value that the constraints on the variable leave, if there are any.
 fn settle(rt: &HostRuntime, constraints: &[Constraint], variable: u32) -> anyhow::Result<()> {
-    let mut conditions = Vec::new(rt.alloc());
-    for constraint in constraints {
-        if constraint.variable == variable {
-            conditions.push(constraint.condition)?;
-        }
-    }
+    let conditions: Vec<Condition> = constraints
+        .iter()
+        .filter(|constraint| constraint.variable == variable)
+        .map(|constraint| constraint.condition)
+        .collect(rt.alloc())?;
     let [first, rest @ ..] = conditions.as_slice() else {
         return Ok(());
     };
@@ -98,14 +89,19 @@ fn accept(rt: &HostRuntime, pattern: &Pattern) -> anyhow::Result<()> {
 }
 
 pub fn refuse(rt: &HostRuntime, fault: PatternFault) -> io::Result<()> {
+    let what = match fault {
+        PatternFault::Bank(BankFault::Value { .. }) => {
+            "an unknown value letter, or a code above its top, at cell"
+        }
+        PatternFault::Structure { .. } => "no description begins so, or it ends too early, at cell",
+        PatternFault::Bank(BankFault::Condition { .. }) => {
+            "no kind of values knows this constraint, number"
+        }
+        PatternFault::Constraint { .. } => "a variable above 7, or a ninth constraint, number",
+        PatternFault::Arity { .. } => "an arity that is not allowed, of symbol",
+    };
     let refusal = fault.refusal();
     let number = refusal.number;
-    let what = match number {
-        20 => "an unknown value letter, or a code above its top, at cell",
-        21 => "no description begins so, or it ends too early, at cell",
-        22 => "no kind of values knows this constraint, number",
-        _ => "a variable above 7, or a ninth constraint, number",
-    };
     let place = refusal.place.unwrap_or(0);
     println!(rt; "  refused with {number}: {what} {place} (counted from 0)")
 }
@@ -118,7 +114,7 @@ pub fn read(rt: &HostRuntime, text: &str) -> anyhow::Result<Option<Written>> {
             println!(rt; "  not read: word {count} is neither a cell nor a constraint")?;
             Ok(None)
         }
-        Err(Unread::NoMemory) => Err(anyhow!("no memory")),
+        Err(Unread::NoMemory) => bail!("no memory"),
     }
 }
 
@@ -126,40 +122,32 @@ fn describe(rt: &HostRuntime, signature: &Signature, text: &str) -> anyhow::Resu
     let Some(written) = read(rt, text)? else {
         return Ok(());
     };
-    let kind = ALL_KINDS;
     match Pattern::read(
         signature,
-        &kind,
+        &ALL_KINDS,
         written.cells.as_slice(),
         written.constraints.as_slice(),
     ) {
         Ok(pattern) => accept(rt, &pattern),
-        Err(fault) => {
-            refuse(rt, fault)?;
-            Ok(())
-        }
+        Err(fault) => Ok(refuse(rt, fault)?),
     }
 }
 
 // A line has one description or two.
 fn answer(rt: &HostRuntime, signature: &Signature, line: &str) -> anyhow::Result<()> {
     println!(rt; "{line}")?;
-    let mut parts = line.split('|');
-    let first = parts.next().unwrap_or("");
-    let Some(second) = parts.next() else {
-        return describe(rt, signature, first);
-    };
-    if parts.next().is_some() {
-        println!(rt; "  not read: there is more than one bar")?;
-        return Ok(());
+    let parts: Vec<&str> = line.split('|').collect(rt.alloc())?;
+    match parts.as_slice() {
+        [one] => describe(rt, signature, one),
+        [left, right] => overlaps::compare_two(rt, left, right),
+        _ => Ok(println!(rt; "  not read: there is more than one bar")?),
     }
-    overlaps::compare_two(rt, &ARITIES, first, second)
 }
 
 fn run(rt: &HostRuntime) -> anyhow::Result<()> {
-    let Ok(signature) = Signature::new(ARITIES) else {
-        return Err(anyhow!("the model base's arities are not allowed"));
-    };
+    let signature = Signature::new(ARITIES)
+        .ok()
+        .context("the model base's arities are not allowed")?;
     for line in rt.lines(rt.alloc()) {
         answer(rt, &signature, line?.as_str())?;
     }

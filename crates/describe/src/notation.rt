@@ -30,35 +30,20 @@ impl<T: Drop> From<AllocFailed<T>> for Unread {
     }
 }
 
-// Digits as a number, if they are digits and the number fits.
-fn number(digits: &[u8]) -> Option<u32> {
-    if digits.is_empty() {
+// Digits as a number, if they are digits and the number fits; a sign, which `parse` would take, is no digit.
+fn number(digits: &str) -> Option<u32> {
+    if digits.starts_with('+') {
         return None;
     }
-    let mut value: u32 = 0;
-    for digit in digits {
-        if !digit.is_ascii_digit() {
-            return None;
-        }
-        value = value
-            .checked_mul(10)?
-            .checked_add(u32::from(*digit - b'0'))?;
-    }
-    Some(value)
+    digits.parse().ok()
 }
 
 // A letter and a number.
 fn cell(word: &str) -> Option<Cell> {
-    let [letter, digits @ ..] = word.as_bytes() else {
-        return None;
-    };
-    if !letter.is_ascii_uppercase() {
-        return None;
-    }
-    let number = number(digits)?;
+    let digits = word.strip_prefix(|letter: char| letter.is_ascii_uppercase())?;
     Some(Cell {
-        letter: *letter,
-        number,
+        letter: *word.as_bytes().first()?,
+        number: number(digits)?,
     })
 }
 
@@ -67,8 +52,8 @@ fn constraint(word: &str) -> Option<Constraint> {
     let mut parts = word.split(':');
     let variable = cell(parts.next()?)?;
     let form = parts.next()?;
-    let a = number(parts.next()?.as_bytes())?;
-    let b = number(parts.next()?.as_bytes())?;
+    let a = number(parts.next()?)?;
+    let b = number(parts.next()?)?;
     let [form] = form.as_bytes() else {
         return None;
     };
@@ -88,15 +73,13 @@ pub fn read(heap: Global, line: &str) -> Result<Written, Unread> {
         cells: Vec::new(heap),
         constraints: Vec::new(heap),
     };
-    let mut count: usize = 0;
-    for word in line.split_whitespace() {
-        count = count.saturating_add(1);
+    for (i, word) in line.split_whitespace().enumerate() {
         if let Some(cell) = cell(word) {
             written.cells.push(cell)?;
         } else if let Some(constraint) = constraint(word) {
             written.constraints.push(constraint)?;
         } else {
-            return Err(Unread::Word(count));
+            return Err(Unread::Word(i + 1));
         }
     }
     Ok(written)

@@ -5,25 +5,20 @@ use compare::outside::{Comparison, Written as Compared, compare};
 use compare::sample::Sample;
 use kinds::bank::ALL_KINDS;
 use std::{fmt, io};
+use telling::model::ARITIES;
+use telling::term::Written as Cells;
 use terms::cell::BLANK;
 
-// The cells of a sample, as they are written on a line.
+// The cells of a sample before its blanks, as they are written on a line.
 #[derive(Clone, Copy)]
 struct Row(Sample);
 
 impl fmt::Display for Row {
     fn fmt<W: fmt::Write>(&self, f: &mut fmt::Formatter<W>) -> fmt::Result {
-        for cell in self.0.cells {
-            if cell.letter != b' ' {
-                let letter = char::from(cell.letter);
-                let number = cell.number;
-                write!(f, " {letter}{number}")?;
-            }
-        }
-        if self.0.more {
-            write!(f, " ..")?;
-        }
-        Ok(())
+        let cells = self.0.cells.split(|cell| *cell == BLANK).next();
+        let cells = Cells(cells.unwrap_or(&[]));
+        let more = if self.0.more { " .." } else { "" };
+        write!(f, "{cells}{more}")
     }
 }
 
@@ -37,40 +32,30 @@ fn tell(rt: &HostRuntime, comparison: Comparison) -> io::Result<()> {
     }
 }
 
-fn compare_written(
-    rt: &HostRuntime,
-    arities: &[u8; 32],
-    left: &Written,
-    right: &Written,
-) -> io::Result<()> {
-    let left = Compared {
-        cells: left.cells.as_slice(),
-        constraints: left.constraints.as_slice(),
-    };
-    let right = Compared {
-        cells: right.cells.as_slice(),
-        constraints: right.constraints.as_slice(),
-    };
-    let mut sheet = [BLANK; 16];
-    let mut bindings = [None; 16];
-    match compare(&ALL_KINDS, arities, left, right, &mut sheet, &mut bindings) {
-        Ok(comparison) => tell(rt, comparison),
-        Err(fault) => refuse(rt, fault),
+fn compared(written: &Written) -> Compared<'_> {
+    Compared {
+        cells: written.cells.as_slice(),
+        constraints: written.constraints.as_slice(),
     }
 }
 
-pub fn compare_two(
-    rt: &HostRuntime,
-    arities: &[u8; 32],
-    left: &str,
-    right: &str,
-) -> anyhow::Result<()> {
+pub fn compare_two(rt: &HostRuntime, left: &str, right: &str) -> anyhow::Result<()> {
     let Some(left) = read(rt, left)? else {
         return Ok(());
     };
     let Some(right) = read(rt, right)? else {
         return Ok(());
     };
-    compare_written(rt, arities, &left, &right)?;
+    match compare(
+        &ALL_KINDS,
+        &ARITIES,
+        compared(&left),
+        compared(&right),
+        &mut [BLANK; 16],
+        &mut [None; 16],
+    ) {
+        Ok(comparison) => tell(rt, comparison)?,
+        Err(fault) => refuse(rt, fault)?,
+    }
     Ok(())
 }

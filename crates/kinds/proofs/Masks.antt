@@ -1,9 +1,12 @@
 -- Bits of a mask, and the zeros below its lowest set bit. Assumes nothing.
-use Rattle.std.proofs.Common.{◌≡◌, ℕ, zero, suc, ◌+◌, ◌-◌, ◌/◌, ◌%◌, ◌^◌, ◌<◌, ◌≤◌, true, sym, refl, ap, ◌∙◌, ⊎_elim, add-one, one-add, arith}
+use Rattle.std.proofs.Common.{◌≡◌, ℕ, zero, suc, ◌+◌, ◌-◌, ◌/◌, ◌%◌, ◌^◌, ◌<◌, ◌≤◌, Bool, true, false, not, ◌==◌, sym, refl, ap, ◌∙◌, ⊎_elim, add-one, one-add, arith, rules}
 use lib.Count.{count_trailing_zeros, under}
 use Rattle.std.proofs.lemmas.Nat.{shr-shr, shr_le, shr_below}
 use Rattle.std.proofs.lemmas.Bool.{cases_lt, and_parts, leb-true}
-use Rattle.kinds.specs.Sets.{Bit, class_known}
+use Rattle.kinds.specs.Sets.{Bit, ClassHolds, class_known}
+use Rattle.kinds.specs.Smallest.{Smallest}
+use Rattle.std.specs.Bool.{then_some}
+use borrow.Author.Tests.{tests}
 use Rattle.kinds.specs.declared.condition.Condition.{Condition}
 
 -- one place further is a place in the half
@@ -60,3 +63,15 @@ mask_next a v n h =
 
 pub class_mask : (q : Condition) → class_known q ≡ true → q.a < 2 ^ 24
 class_mask q h = omega (arith, leb-true q.a 16777215 (and_parts _ _ (and_parts _ _ h).1).0)
+
+-- the next class of a condition from v on: v and the zeros of the mask shifted down to v, where a bit is left
+pub next_class : (q : Condition) (v : ℕ) → class_known q ≡ true → v ≤ 23
+    → Smallest (ClassHolds q) v (then_some (not (q.a / 2 ^ v == 0)) (v + count_trailing_zeros 32 (q.a / 2 ^ v)))
+next_class q v known low = by_rest (q.a / 2 ^ v == 0) refl
+  where
+    by_rest : (b : Bool) → (q.a / 2 ^ v == 0) ≡ b → Smallest (ClassHolds q) v (then_some (not b) (v + count_trailing_zeros 32 (q.a / 2 ^ v)))
+    by_rest true e = λ k l h. mask_none q.a v k (search (rules, tests)) l h.2
+    by_rest false e =
+        let n = mask_next q.a v (search (rules, tests)) (class_mask q known) in
+        let b = bit_below q.a 24 _ (class_mask q known) n.0 in
+        (omega arith, (known, omega arith, n.0), λ k l m h. n.1 k l m h.2)

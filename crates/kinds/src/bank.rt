@@ -23,31 +23,22 @@ impl<P: Kind, Q: Kind> Kind for Bank<P, Q> {
     ghost sound = { λ s. both_sound (P.Kind.means s.first) (Q.Kind.means s.second) (P.Kind.sound s.first) (Q.Kind.sound s.second) };
 
     fn top(&self, letter: u8) -> Option<u32> {
-        match self.first.top(letter) {
-            Some(top) => Some(top),
-            None => self.second.top(letter),
-        }
+        self.first.top(letter).or_else(|| self.second.top(letter))
     }
 
     fn letter(&self, condition: Condition) -> Option<u8> {
-        if let Some(letter) = self.first.letter(condition) {
-            return Some(letter);
-        }
-        let letter = self.second.letter(condition)?;
-        match self.first.top(letter) {
-            Some(_) => None,
-            None => Some(letter),
-        }
+        self.first.letter(condition).or_else(|| {
+            let letter = self.second.letter(condition)?;
+            self.first.top(letter).is_none().then_some(letter)
+        })
     }
 
     fn next(&self, condition: Condition, v: u32) -> Option<u32> {
         if self.first.letter(condition).is_some() {
             return self.first.next(condition, v);
         }
-        match self.letter(condition) {
-            Some(_) => self.second.next(condition, v),
-            None => None,
-        }
+        self.letter(condition)?;
+        self.second.next(condition, v)
     }
 }
 

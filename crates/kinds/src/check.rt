@@ -12,11 +12,9 @@ use crate::kind::Kind;
 pub fn check_value<K: Kind>(kind: &K, letter: u8, code: u32, place: usize) -> Result<(), BankFault>
     ensures { Checked (Value (K.Kind.means kind.now) letter code) (BadValue place) result }
 {
-    if kind.admits(letter, code) {
-        Ok(())
-    } else {
-        Err(BankFault::Value { place })
-    }
+    kind.admits(letter, code)
+        .then_some(())
+        .ok_or(BankFault::Value { place })
 }
 
 // The condition at this place.
@@ -27,8 +25,7 @@ pub fn check_condition<K: Kind>(
 ) -> Result<(), BankFault>
     ensures { Checked (Known (K.Kind.means kind.now) condition) (BadCondition place) result }
 {
-    match kind.letter(condition) {
-        Some(_) => Ok(()),
-        None => Err(BankFault::Condition { place }),
-    }
+    kind.letter(condition)
+        .map(|_| ())
+        .ok_or(BankFault::Condition { place })
 }

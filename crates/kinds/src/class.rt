@@ -43,10 +43,6 @@ impl Kind for Class {
             return None;
         }
         let rest = condition.a >> v;
-        if rest == 0 {
-            None
-        } else {
-            Some(v + rest.trailing_zeros())
-        }
+        (rest != 0).then_some(v + rest.trailing_zeros())
     }
 }

@@ -17,11 +17,9 @@ pub struct Value {
 fn pass<K: Kind>(kind: &K, conditions: &[Condition], v: u32) -> Option<u32>
     ensures { Passed (K.Kind.means kind.now) conditions.now v result }
 {
-    let mut low = v;
-    for condition in conditions {
-        low = kind.next(*condition, low)?;
-    }
-    Some(low)
+    conditions
+        .iter()
+        .try_fold(v, |low, condition| kind.next(*condition, low))
 }
 
 // The smallest code from v on that is in the first condition's set and in each of the others.
@@ -44,13 +42,9 @@ fn one_letter<K: Kind>(kind: &K, first: Condition, rest: &[Condition]) -> Option
     ensures { OneLetter (K.Kind.means kind.now) (first ∷ rest.now) result }
 {
     let letter = kind.letter(first)?;
-    for condition in rest {
-        match kind.letter(*condition) {
-            Some(other) if other == letter => {}
-            _ => return None,
-        }
-    }
-    Some(letter)
+    rest.iter()
+        .all(|condition| kind.letter(*condition) == Some(letter))
+        .then_some(letter)
 }
 
 // The smallest value that meets the first condition and each of the others; none exactly when no value does.

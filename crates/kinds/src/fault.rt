@@ -16,9 +16,9 @@ impl Fault for BankFault {
     ghost refuses = { bank_refusal };
 
     fn refusal(&self) -> Refusal {
-        let (number, place) = match self {
-            BankFault::Value { place } => (20, *place),
-            BankFault::Condition { place } => (22, *place),
+        let (number, place) = match *self {
+            BankFault::Value { place } => (20, place),
+            BankFault::Condition { place } => (22, place),
         };
         Refusal {
             number,

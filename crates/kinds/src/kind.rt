@@ -26,10 +26,7 @@ pub trait Kind {
     fn admits(&self, letter: u8, code: u32) -> bool
         ensures { Decides result (Value (means self.now) letter code) }
     {
-        match self.top(letter) {
-            Some(top) => code <= top,
-            None => false,
-        }
+        self.top(letter).is_some_and(|top| code <= top)
     }
 
     ghost sound: { (s : Self) → Sound (means s) };

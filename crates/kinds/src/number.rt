@@ -46,14 +46,10 @@ impl Kind for Number {
         }
         if condition.form == b'B' {
             let low = v.max(condition.a);
-            if low <= condition.b { Some(low) } else { None }
+            (low <= condition.b).then_some(low)
         } else {
             let low = if v == condition.a { v + 1 } else { v };
-            if low <= Number::TOP.code {
-                Some(low)
-            } else {
-                None
-            }
+            (low <= Number::TOP.code).then_some(low)
         }
     }
 }

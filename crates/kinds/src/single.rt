@@ -9,18 +9,14 @@ use crate::codes::Single;
 pub fn top_of<const L: u8, const T: u32, S: Single<L, T>>(letter: u8) -> Option<u32>
     ensures { result ≡ only L T letter }
 {
-    if letter == S::LETTER.byte {
-        Some(S::TOP.code)
-    } else {
-        None
-    }
+    (letter == S::LETTER.byte).then_some(S::TOP.code)
 }
 
 // The kind's letter, where the condition is known.
 pub fn letter_where<const L: u8, const T: u32, S: Single<L, T>>(known: bool) -> Option<u8>
     ensures { result ≡ where_known known L }
 {
-    if known { Some(S::LETTER.byte) } else { None }
+    known.then_some(S::LETTER.byte)
 }
 
 // A set of codes up to the top T that is tested code by code.
@@ -39,12 +35,12 @@ pub fn first_from<const L: u8, const T: u32, S: Single<L, T>, M: Tested<T>>(
 ) -> Option<u32>
     ensures { Smallest (λ c. (c ≤ T) × M.Tested.passes set.now c) v result }
 {
-    for code in v..S::TOP.code + 1 {
-        if set.test(code) {
-            return Some(code);
-        }
-    }
-    None
+    (v..S::TOP.code + 1).find(
+        |code|
+            requires { code.now ≤ T }
+            ensures { Decides result (M.Tested.passes set.entry.now code.entry.now) }
+        { set.test(*code) },
+    )
 }
 
 // Whether bit k of the mask is set; no mask has a bit past 31.

@@ -1,60 +1,55 @@
 // Cells and constraints from bytes. The first fault of a pattern lies within its first 25 cells and 9 constraints, so no more are kept.
-ghost use Rattle.std.specs.Prelude.{◌≡◌, ◌≤◌, length};
-
 use kinds::condition::Condition;
+use lists::up_to::UpTo;
 use terms::cell::{BLANK, Cell};
 use terms::constraint::{Constraint, NO_CONSTRAINT};
 
-#[derive(Drop)]
-pub struct Cells {
-    pub items: [Cell; 25],
-    pub len: usize,
-    ghost long: { length items ≡ 25 },
-    ghost few: { len ≤ 25 },
-}
-
-#[derive(Drop)]
-pub struct Constraints {
-    pub items: [Constraint; 9],
-    pub len: usize,
-    ghost long: { length items ≡ 9 },
-    ghost few: { len ≤ 9 },
-}
-
-// The number in four bytes, the high one first.
-fn number(bytes: &[u8]) -> u32 {
-    match bytes {
-        [a, b, c, d] => u32::from_be_bytes([*a, *b, *c, *d]),
-        _ => 0,
+// A letter, and a number with its high byte first.
+fn cell(bytes: &[u8; 5]) -> Cell {
+    let [letter, a, b, c, d] = *bytes;
+    Cell {
+        letter,
+        number: u32::from_be_bytes([a, b, c, d]),
     }
 }
 
-pub fn cells_in(bytes: &[u8]) -> Cells {
-    let len = (bytes.len() / 5).min(25);
-    let mut items = [BLANK; 25];
-    for i in 0..len {
-        let at = i * 5;
-        items[i] = Cell {
-            letter: bytes[at],
-            number: number(&bytes[at + 1..at + 5]),
-        };
+// A variable, a form and two numbers, each with its high byte first.
+fn constraint(bytes: &[u8; 13]) -> Constraint {
+    let [v0, v1, v2, v3, form, a0, a1, a2, a3, b0, b1, b2, b3] = *bytes;
+    Constraint {
+        variable: u32::from_be_bytes([v0, v1, v2, v3]),
+        condition: Condition {
+            form,
+            a: u32::from_be_bytes([a0, a1, a2, a3]),
+            b: u32::from_be_bytes([b0, b1, b2, b3]),
+        },
     }
-    Cells { items, len }
 }
 
-pub fn constraints_in(bytes: &[u8]) -> Constraints {
-    let len = (bytes.len() / 13).min(9);
-    let mut items = [NO_CONSTRAINT; 9];
-    for i in 0..len {
-        let at = i * 13;
-        items[i] = Constraint {
-            variable: number(&bytes[at..at + 4]),
-            condition: Condition {
-                form: bytes[at + 4],
-                a: number(&bytes[at + 5..at + 9]),
-                b: number(&bytes[at + 9..at + 13]),
-            },
-        };
+// The first N of the pieces, decoded.
+fn first_of<P, T: Copy, F: Fn(&P) -> T, const N: usize>(
+    pieces: &[P],
+    blank: T,
+    decode: F,
+) -> UpTo<T, N>
+    requires { F.IsAlwaysCallable decode }
+{
+    let mut items = UpTo::new(blank);
+    for piece in pieces {
+        if items.len() == N {
+            break;
+        }
+        items.push(decode(piece));
     }
-    Constraints { items, len }
+    items
+}
+
+// Bytes at the end that make no whole cell are left out.
+pub fn cells_in(bytes: &[u8]) -> UpTo<Cell, 25> {
+    first_of(bytes.as_chunks::<5>().0, BLANK, cell)
+}
+
+// The same of a whole constraint.
+pub fn constraints_in(bytes: &[u8]) -> UpTo<Constraint, 9> {
+    first_of(bytes.as_chunks::<13>().0, NO_CONSTRAINT, constraint)
 }

@@ -15,7 +15,7 @@ use refusals::Fault;
 use terms::cell::BLANK;
 use terms::fault::PatternFault;
 
-// What a search answers where there is no code.
+// What a search answers where there is no code: callers in C get numbers alone.
 const NO_CODE: u32 = 4_294_967_295;
 
 // The smallest code of the condition's set that is at least v, over numbers, hours and classes; 4,294,967,295 where there is none.
@@ -23,10 +23,9 @@ const NO_CODE: u32 = 4_294_967_295;
 pub extern "C" fn pilmoert_next(form: u8, a: u32, b: u32, v: u32) -> u32
     ensures { Found (record { form = form; a = a; b = b }) v result }
 {
-    match ALL_KINDS.next(Condition { form, a, b }, v) {
-        Some(code) => code,
-        None => NO_CODE,
-    }
+    ALL_KINDS
+        .next(Condition { form, a, b }, v)
+        .unwrap_or(NO_CODE)
 }
 
 // Twelve cells of five bytes, and 1 if more follow.
@@ -34,26 +33,19 @@ fn show_sample(sample: &Sample, out: &mut [u8]) {
     if out.len() < 61 {
         return;
     }
-    for i in 0..12 {
-        let cell = sample.cells[i];
+    let (places, _) = out.as_chunks_mut::<5>();
+    for (place, cell) in places.iter_mut().zip(&sample.cells) {
         let [a, b, c, d] = cell.number.to_be_bytes();
-        out[i * 5] = cell.letter;
-        out[i * 5 + 1] = a;
-        out[i * 5 + 2] = b;
-        out[i * 5 + 3] = c;
-        out[i * 5 + 4] = d;
+        *place = [cell.letter, a, b, c, d];
     }
-    out[60] = if sample.more { 1 } else { 0 };
+    out[60] = u8::from(sample.more);
 }
 
 // The refusal's number; its place goes into the first byte.
 fn show_fault(fault: PatternFault, out: &mut [u8]) -> u32 {
     let refusal = fault.refusal();
-    if out.len() > 0 {
-        out[0] = match refusal.place {
-            Some(place) if place < 255 => place as u8,
-            _ => 255,
-        };
+    if let Some(first) = out.first_mut() {
+        *first = refusal.place.map_or(255, |place| place.min(255) as u8);
     }
     u32::from(refusal.number)
 }
@@ -71,22 +63,20 @@ pub extern "C" fn pilmoert_compare(
     out: &mut [u8],
 ) -> u32 {
     let mut own = [0; 32];
-    for (i, arity) in arities.iter().enumerate() {
-        if i < 32 {
-            own[i] = *arity;
-        }
+    for (slot, arity) in own.iter_mut().zip(arities) {
+        *slot = *arity;
     }
     let left = cells_in(left_cells);
     let left_on = constraints_in(left_constraints);
     let right = cells_in(right_cells);
     let right_on = constraints_in(right_constraints);
     let first = Written {
-        cells: &left.items[0..left.len],
-        constraints: &left_on.items[0..left_on.len],
+        cells: left.as_slice(),
+        constraints: left_on.as_slice(),
     };
     let second = Written {
-        cells: &right.items[0..right.len],
-        constraints: &right_on.items[0..right_on.len],
+        cells: right.as_slice(),
+        constraints: right_on.as_slice(),
     };
     let mut sheet = [BLANK; 16];
     let mut bindings = [None; 16];

@@ -2,17 +2,32 @@
 use compare::sample::Sample;
 use kinds::bank::ALL_KINDS;
 use ledger::entry::{PendingChange, Reservation, Right, Transaction};
-use manager::call::{Answer, Call};
 use manager::memory::Memory;
-use manager::run::run;
 use refusals::Fault;
+use runs::call::{Answer, Call};
+use runs::run::run;
 use std::alloc::AllocError;
 use stores::entry::Record;
 use stores::key::Key;
 use stores::table::Table;
 use terms::cell::{BLANK, Cell};
+use terms::constraint::Constraint;
 use terms::pattern::Pattern;
 use terms::signature::Signature;
+
+// S3 V0.
+pub const ANY: [Cell; 2] = [
+    Cell {
+        letter: b'S',
+        number: 3,
+    },
+    Cell {
+        letter: b'V',
+        number: 0,
+    },
+];
+
+pub const FREE: &[Constraint] = &[];
 
 pub fn cell(letter: u8, number: u32) -> Cell {
     Cell { letter, number }
@@ -26,8 +41,59 @@ pub fn arities() -> [u8; 32] {
     arities
 }
 
+pub fn reserve<'a>(
+    transaction: u32,
+    right: u8,
+    cells: &'a [Cell],
+    constraints: &'a [Constraint],
+) -> Call<'a> {
+    Call::Reserve {
+        transaction,
+        right,
+        cells,
+        constraints,
+    }
+}
+
+// Arrays of the rolls' sizes. No entry is read before a call has written it, so what they hold is nobody's.
+#[derive(Clone, Copy)]
+pub struct Rolls {
+    pub transactions: [Transaction; 16],
+    pub reservations: [Reservation; 64],
+    pub changes: [PendingChange; 128],
+}
+
+impl Rolls {
+    pub fn new() -> Option<Rolls> {
+        let nought = [cell(b'S', 0)];
+        let signature = Signature::new([0; 32]).ok()?;
+        let pattern = Pattern::read(&signature, &ALL_KINDS, &nought, &[]).ok()?;
+        let row = Key::new(&nought)?;
+        let transaction = Transaction {
+            number: 0,
+            planner: 0,
+        };
+        let reservation = Reservation {
+            number: 0,
+            owner: 0,
+            right: Right::Read,
+            pattern,
+        };
+        let change = PendingChange {
+            owner: 0,
+            row,
+            change: None,
+        };
+        Some(Rolls {
+            transactions: [transaction; 16],
+            reservations: [reservation; 64],
+            changes: [change; 128],
+        })
+    }
+}
+
 // The number of a refusal, or 0.
-fn refusal(answer: Answer) -> u8 {
+fn refusal(answer: &Answer) -> u8 {
     match answer {
         Answer::Refused(fault) => fault.refusal().number,
         _ => 0,
@@ -35,48 +101,29 @@ fn refusal(answer: Answer) -> u8 {
 }
 
 // The refusals of the calls, in order: 0 for one that is granted. A run that is refused as a whole has its refusal alone.
-pub fn play(
+pub fn play_under(
     rt: &HostRuntime,
     arities: [u8; 32],
     changes: usize,
     calls: &[Call],
 ) -> Result<Vec<u8>, AllocError> {
     let heap = rt.alloc();
-    let mut told = Vec::new(heap);
-    let nought = [cell(b'S', 0)];
-    let Ok(signature) = Signature::new([0; 32]) else {
-        return Ok(told);
+    let Some(Rolls {
+        mut transactions,
+        mut reservations,
+        changes: mut pending,
+    }) = Rolls::new()
+    else {
+        return Ok(Vec::new(heap));
     };
-    let Ok(pattern) = Pattern::read(&signature, &ALL_KINDS, &nought, &[]) else {
-        return Ok(told);
-    };
-    let Some(row) = Key::new(&nought) else {
-        return Ok(told);
-    };
-    let mut transactions = [Transaction {
-        number: 0,
-        planner: 0,
-    }; 16];
-    let mut reservations = [Reservation {
-        number: 0,
-        owner: 0,
-        right: Right::Read,
-        pattern,
-    }; 64];
-    let blank = PendingChange {
-        owner: 0,
-        row,
-        change: None,
-    };
-    let mut pending = vec![in heap; blank; changes]?;
     let mut memory = Memory {
         transactions: &mut transactions,
         reservations: &mut reservations,
-        changes: pending.as_mut_slice(),
+        changes: &mut pending[..changes.min(128)],
     };
     let mut records = [Record::Free; 2];
     let Ok(mut table) = Table::new(&mut records) else {
-        return Ok(told);
+        return Ok(Vec::new(heap));
     };
     let mut sheet = [BLANK; 16];
     let mut answers = vec![in heap; Answer::Done; calls.len()]?;
@@ -95,12 +142,11 @@ pub fn play(
         answers.as_mut_slice(),
         samples.as_mut_slice(),
     ) {
-        Ok(_) => {
-            for answer in answers.as_slice() {
-                told.push(refusal(*answer))?;
-            }
-        }
-        Err(fault) => told.push(fault.refusal().number)?,
+        Ok(_) => answers.iter().map(refusal).collect(heap),
+        Err(fault) => Ok(vec![in heap; fault.refusal().number]?),
     }
-    Ok(told)
+}
+
+pub fn play(rt: &HostRuntime, calls: &[Call]) -> Result<Vec<u8>, AllocError> {
+    play_under(rt, arities(), 128, calls)
 }

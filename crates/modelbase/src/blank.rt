@@ -1,6 +1,6 @@
 // The image of a new file.
 ghost use Rattle.std.specs.Prelude.{◌≡◌, ◌*◌, ◌≤◌, IfOk, vec_len, MatchOption};
-ghost use Rattle.modelbase.specs.Blank.{BlankAt, BlankTo};
+ghost use Rattle.modelbase.specs.Blank.{BlankTo};
 
 use std::alloc::{AllocError, Global};
 
@@ -30,20 +30,11 @@ impl Lines {
     }
 }
 
-// The byte at place k of blank lines.
-fn blank_byte(k: usize) -> u8
-    ensures { BlankAt k result }
-{
-    if k % 128 == 127 { b'\n' } else { b' ' }
-}
-
 // So many blank lines of 128 characters.
 pub fn blank_image(heap: Global, lines: Lines) -> Result<Vec<u8>, AllocError>
     ensures { IfOk result (λ v. (vec_len v ≡ lines.count * 128) × BlankTo (lines.count * 128) v.items) }
 {
-    let mut image = Vec::new(heap);
-    for k in 0..lines.count * 128 {
-        image.push(blank_byte(k))?;
-    }
-    Ok(image)
+    (0..lines.count * 128)
+        .map(|k| if k % 128 == 127 { b'\n' } else { b' ' })
+        .collect(heap)
 }

@@ -10,28 +10,17 @@ pub enum Command<'a> {
 
 // What is asked for; how many lines a file may have is not judged here.
 pub fn read_command(words: &[String]) -> Result<Command<'_>, Failure> {
-    let Some(command) = words.first() else {
+    let [command, file, rest @ ..] = words else {
         return Err(Failure::Usage);
     };
-    let Some(file) = words.get(1) else {
-        return Err(Failure::Usage);
-    };
-    match (command.as_str(), words.len()) {
-        ("new", 3) => {
-            let Ok(lines) = words[2].as_str().parse::<usize>() else {
-                return Err(Failure::Lines);
-            };
-            Ok(Command::New {
-                file: file.as_str(),
-                lines,
-            })
+    let file = file.as_str();
+    match (command.as_str(), rest) {
+        ("new", [lines]) => {
+            let lines = lines.as_str().parse().map_err(|_| Failure::Lines)?;
+            Ok(Command::New { file, lines })
         }
-        ("check", 2) => Ok(Command::Check {
-            file: file.as_str(),
-        }),
-        ("run", 2) => Ok(Command::Run {
-            file: file.as_str(),
-        }),
+        ("check", []) => Ok(Command::Check { file }),
+        ("run", []) => Ok(Command::Run { file }),
         _ => Err(Failure::Usage),
     }
 }

@@ -1,5 +1,6 @@
 // Why a command was not carried out.
-use refusals::Refusal;
+use image::fault::OpeningFault;
+use refusals::{Fault, Refusal};
 use std::alloc::{AllocError, AllocFailed};
 use std::{fmt, io};
 use telling::refusal::RefusalWords;
@@ -21,6 +22,12 @@ pub enum Failure {
     // the words could not be read, or nothing printed
     Outside(io::Error),
     NoMemory,
+}
+
+impl From<OpeningFault> for Failure {
+    fn from(fault: OpeningFault) -> Failure {
+        Failure::Damaged(fault.refusal())
+    }
 }
 
 impl From<io::Error> for Failure {

@@ -19,10 +19,10 @@ use working::run_requests;
 
 fn obey(rt: &HostRuntime, words: &[String]) -> Result<(), Failure> {
     match read_command(words)? {
-        Command::New { file, lines } => match Lines::new(lines) {
-            Some(lines) => make_blank(rt, file, lines),
-            None => Err(Failure::Lines),
-        },
+        Command::New { file, lines } => {
+            let lines = Lines::new(lines).ok_or(Failure::Lines)?;
+            make_blank(rt, file, lines)
+        }
         Command::Check { file } => list_rows(rt, file),
         Command::Run { file } => run_requests(rt, file),
     }
@@ -30,11 +30,7 @@ fn obey(rt: &HostRuntime, words: &[String]) -> Result<(), Failure> {
 
 // The words after the program's name.
 fn arguments(rt: &HostRuntime) -> Result<Vec<String>, Failure> {
-    let mut words = Vec::new(rt.alloc());
-    for word in env::args(rt)?.skip(1) {
-        words.push(word)?;
-    }
-    Ok(words)
+    Ok(env::args(rt)?.skip(1).collect(rt.alloc())?)
 }
 
 // Says what went wrong, and with which file.

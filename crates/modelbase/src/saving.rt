@@ -14,10 +14,7 @@ fn write_through(mut file: File, bytes: &[u8]) -> io::Result<()> {
 // Writes the bytes beside the file and puts them in its place.
 fn replace(rt: &HostRuntime, file: &str, beside: &str, bytes: &[u8]) -> io::Result<()> {
     let made = File::create(rt, beside)?;
-    let mut done = write_through(made, bytes);
-    if done.is_ok() {
-        done = fs::rename(rt, beside, file);
-    }
+    let done = write_through(made, bytes).and_then(|()| fs::rename(rt, beside, file));
     // only what was made here is taken away again
     if done.is_err() {
         let _ = fs::remove_file(rt, beside);
@@ -28,18 +25,13 @@ fn replace(rt: &HostRuntime, file: &str, beside: &str, bytes: &[u8]) -> io::Resu
 // The bytes take the file's place at once, or it stays as it was.
 pub fn save(rt: &HostRuntime, file: &str, bytes: &[u8]) -> Result<(), Failure> {
     let beside = format!(in rt.alloc(); "{file}.new")?;
-    match replace(rt, file, beside.as_str(), bytes) {
-        Ok(()) => Ok(()),
-        Err(error) => Err(Failure::Unsaved(error)),
-    }
+    replace(rt, file, beside.as_str(), bytes).map_err(Failure::Unsaved)
 }
 
 // A new file of blank lines; one that stands already is left alone.
 pub fn make_blank(rt: &HostRuntime, file: &str, lines: Lines) -> Result<(), Failure> {
-    match fs::exists(rt, file) {
-        Ok(false) => {}
-        Ok(true) => return Err(Failure::Exists),
-        Err(error) => return Err(Failure::Unreadable(error)),
+    if fs::exists(rt, file).map_err(Failure::Unreadable)? {
+        return Err(Failure::Exists);
     }
     let image = blank_image(rt.alloc(), lines)?;
     save(rt, file, image.as_slice())?;

@@ -5,7 +5,6 @@ use crate::saving::save;
 use image::open::open;
 use kinds::bank::ALL_KINDS;
 use manager::memory::Memory;
-use refusals::Fault;
 use sheets::answering::answer_sheet;
 use std::io::{Read, Write};
 use telling::memory::Rolls;
@@ -24,21 +23,16 @@ fn answers(rt: &HostRuntime, image: &mut [u8], requests: &[u8]) -> Result<Vec<u8
         reservations: &mut reservations,
         changes: &mut changes,
     };
-    let mut store = match open(&ALL_KINDS, &ARITIES, image) {
-        Ok(lines) => lines.into_store(),
-        Err(fault) => return Err(Failure::Damaged(fault.refusal())),
-    };
-    match answer_sheet(
+    let mut store = open(&ALL_KINDS, &ARITIES, image)?.into_store();
+    answer_sheet(
         rt.alloc(),
         ALL_KINDS,
         ARITIES,
         &mut memory,
         &mut store,
         requests,
-    ) {
-        Ok(out) => Ok(out),
-        Err(_) => Err(Failure::NoMemory),
-    }
+    )
+    .map_err(|_| Failure::NoMemory)
 }
 
 // The file is saved before anything is answered, so that no answer tells of a commit that was lost.

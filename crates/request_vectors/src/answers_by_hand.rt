@@ -14,45 +14,50 @@ const SILENT: AnswerLine = AnswerLine {
     sample: None,
 };
 
-fn is_line(heap: Global, answer: AnswerLine, text: &str) -> Result<bool, AllocError> {
+fn line(heap: Global, answer: AnswerLine) -> Result<Vec<u8>, AllocError> {
     let mut out = Vec::new(heap);
     write_answer(&answer, &mut out)?;
-    Ok(out.as_slice() == text.as_bytes())
+    Ok(out)
 }
 
 #[test]
 fn answers(rt: HostRuntime) -> Result<(), Fail> {
-    let heap = rt.alloc();
     let begin = AnswerLine {
         word: Some(Word::Begin),
         first: Some(1),
         ..SILENT
     };
-    assert!(rt; is_line(heap, begin, "begin         0      1\n")?);
     let bad = AnswerLine {
         refusal: 44,
         ..SILENT
     };
-    assert!(rt; is_line(heap, bad, "             44\n")?);
     let tally = AnswerLine {
         word: Some(Word::Tally),
         second: Some(12),
         ..SILENT
     };
-    assert!(rt; is_line(heap, tally, "tally         0                12\n")?);
     let survey = AnswerLine {
         word: Some(Word::Survey),
         first: Some(4096),
         second: Some(4_095_995_904),
         ..SILENT
     };
-    assert!(rt; is_line(heap, survey, "survey        0   4096 4095995904\n")?);
+    for (answer, text) in [
+        (begin, "begin         0      1\n"),
+        (bad, "             44\n"),
+        (tally, "tally         0                12\n"),
+        (survey, "survey        0   4096 4095995904\n"),
+    ] {
+        assert!(rt;
+            line(rt.alloc(), answer)?.as_slice() == text.as_bytes(),
+            "{text}"
+        );
+    }
     Ok(())
 }
 
 #[test]
 fn samples(rt: HostRuntime) -> Result<(), Fail> {
-    let heap = rt.alloc();
     let symbol = Cell {
         letter: b'S',
         number: 0,
@@ -60,30 +65,21 @@ fn samples(rt: HostRuntime) -> Result<(), Fail> {
     let mut cells = [BLANK; 12];
     cells[0] = symbol;
     let short = Sample { cells, more: false };
-    let conflict = AnswerLine {
-        word: Some(Word::Reserve),
-        refusal: 30,
-        first: Some(2),
-        second: Some(7),
-        sample: Some(short),
-    };
-    assert!(rt;
-        is_line(
-            heap,
-            conflict,
-            "reserve      30      2          7S        0\n",
-        )?
-    );
     let long = Sample {
         cells: [symbol; 12],
         more: true,
     };
-    let conflict = AnswerLine {
-        sample: Some(long),
-        ..conflict
+    let conflict = |sample| AnswerLine {
+        word: Some(Word::Reserve),
+        refusal: 30,
+        first: Some(2),
+        second: Some(7),
+        sample: Some(sample),
     };
-    let mut out = Vec::new(heap);
-    write_answer(&conflict, &mut out)?;
+    let out = line(rt.alloc(), conflict(short))?;
+    let text = "reserve      30      2          7S        0\n";
+    assert!(rt; out.as_slice() == text.as_bytes());
+    let out = line(rt.alloc(), conflict(long))?;
     assert_eq!(rt; out.len(), 33 + 120 + 2);
     assert!(rt; out.as_slice().ends_with(b"S        0+\n"));
     Ok(())

@@ -19,11 +19,8 @@ fn again(heap: Global, line: &str) -> Result<Vec<u8>, AllocError> {
     Ok(out)
 }
 
-fn is_cell(cells: &[Cell], i: usize, letter: u8, number: u32) -> bool {
-    match cells.get(i) {
-        Some(cell) => cell.letter == letter && cell.number == number,
-        None => false,
-    }
+fn cell(letter: u8, number: u32) -> Cell {
+    Cell { letter, number }
 }
 
 #[test]
@@ -52,7 +49,8 @@ fn a_reserve(rt: HostRuntime) -> Result<(), Fail> {
     assert_eq!(rt; transaction, 1);
     assert_eq!(rt; right, b'W');
     assert_eq!(rt; cells.len(), 3);
-    assert!(rt; is_cell(&cells, 0, b'S', 2) && is_cell(&cells, 2, b'V', 0));
+    assert_eq!(rt; cells.first().copied(), Some(cell(b'S', 2)));
+    assert_eq!(rt; cells.get(2).copied(), Some(cell(b'V', 0)));
     assert_eq!(rt; constraints.len(), 0);
     Ok(())
 }
@@ -72,12 +70,14 @@ fn a_reserve_with_conditions(rt: HostRuntime) -> Result<(), Fail> {
         return Err(Fail::new("no reserve"));
     };
     assert_eq!(rt; cells.len(), 3);
-    assert!(rt; constraints.len() == 2);
-    assert_eq!(rt; constraints[0].condition.form, b'W');
-    assert_eq!(rt; constraints[0].condition.a, 31);
-    assert_eq!(rt; constraints[0].condition.b, 384);
-    assert_eq!(rt; constraints[1].condition.form, b'X');
-    assert_eq!(rt; constraints[1].condition.a, 17);
+    let [first, second] = constraints.as_slice() else {
+        return Err(Fail::new("not two conditions"));
+    };
+    assert_eq!(rt; first.condition.form, b'W');
+    assert_eq!(rt; first.condition.a, 31);
+    assert_eq!(rt; first.condition.b, 384);
+    assert_eq!(rt; second.condition.form, b'X');
+    assert_eq!(rt; second.condition.a, 17);
     Ok(())
 }
 
@@ -144,10 +144,15 @@ fn not_laid_out(rt: HostRuntime) -> Result<(), Fail> {
 
 #[test]
 fn written_again(rt: HostRuntime) -> Result<(), Fail> {
-    let heap = rt.alloc();
-    let line = "write         1    250 S        2N        3N        3";
-    assert!(rt; again(heap, line)?.as_slice() == line.as_bytes());
-    let line = "reserve      12       RS        0X        0        17         0";
-    assert!(rt; again(heap, line)?.as_slice() == line.as_bytes());
+    for line in [
+        "write         1    250 S        2N        3N        3",
+        "reserve      12       RS        0X        0        17         0",
+    ] {
+        assert!(rt;
+            again(rt.alloc(), line)?.as_slice() == line.as_bytes(),
+            "{}",
+            line
+        );
+    }
     Ok(())
 }

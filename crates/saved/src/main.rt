@@ -5,59 +5,24 @@
 use image::fault::OpeningFault;
 use image::open::open;
 use kinds::bank::ALL_KINDS;
-use refusals::Fault;
+use refusals::{Fault, Refusal};
 use std::{fs, io};
 use stores::count::Count;
+use stores::entry::Size;
 use stores::key::Key;
 use stores::store::Store;
+use telling::model::{ARITIES, MONDAY, count_row, hour};
 use terms::cell::Cell;
 
-// The arities of the model base: a count has four arguments, a turn two, an opposite arm one.
-const ARITIES: [u8; 32] = [
-    0, 4, 2, 1, 0, 0, 0, 0, 0, 0, 0, 0, 0, 0, 0, 0, 0, 0, 0, 0, 0, 0, 0, 0, 0, 0, 0, 0, 0, 0, 0, 0,
-];
-
-// A count at junction 12: the hour of the week, the vehicle class, and the turn from one arm to another.
-fn count_at(hour: u32, class: u32, from: u32, to: u32) -> [Cell; 7] {
-    [
-        Cell {
-            letter: b'S',
-            number: 1,
-        },
-        Cell {
-            letter: b'N',
-            number: 12,
-        },
-        Cell {
-            letter: b'H',
-            number: hour,
-        },
-        Cell {
-            letter: b'C',
-            number: class,
-        },
-        Cell {
-            letter: b'S',
-            number: 2,
-        },
-        Cell {
-            letter: b'N',
-            number: from,
-        },
-        Cell {
-            letter: b'N',
-            number: to,
-        },
-    ]
+// A count at junction 12 on a Monday: the hour, the vehicle class, and the turn from one arm to another.
+fn count_at(of_day: u8, class: u32, from: u32, to: u32) -> [Cell; 7] {
+    count_row(12, hour(MONDAY, of_day), class, from, to)
 }
 
 // The lines of an image, each with its number.
 fn show(rt: &HostRuntime, bytes: &[u8]) -> io::Result<()> {
     for (k, line) in bytes.chunks_exact(128).enumerate() {
-        let text = match std::str::from_utf8(line) {
-            Ok(text) => text.trim_end(),
-            Err(_) => "(not text)",
-        };
+        let text = std::str::from_utf8(line).map_or("(not text)", |text| text.trim_end());
         println!(rt; "  line {k}: {text}")?;
     }
     Ok(())
@@ -72,19 +37,14 @@ fn put<S: Store>(rt: &HostRuntime, store: &mut S, cells: &[Cell], count: u32) ->
     };
     let value = count.value;
     match store.find(&key) {
-        Some(old) => {
-            let old = old.value;
-            println!(rt; "the count {old} becomes {value}")?;
-        }
+        Some(Count { value: old, .. }) => println!(rt; "the count {old} becomes {value}")?,
         None => println!(rt; "a new row gets the count {value}")?,
     }
-    match store.put(&key, count) {
-        Ok(()) => Ok(()),
-        Err(fault) => {
-            let number = fault.refusal().number;
-            println!(rt; "  refused with {number}: every place is taken")
-        }
+    if let Err(fault) = store.put(&key, count) {
+        let number = fault.refusal().number;
+        println!(rt; "  refused with {number}: every place is taken")?;
     }
+    Ok(())
 }
 
 fn drop_row<S: Store>(rt: &HostRuntime, store: &mut S, cells: &[Cell]) -> io::Result<()> {
@@ -106,49 +66,38 @@ fn correct<S: Store>(rt: &HostRuntime, store: &mut S) -> io::Result<()> {
     put(rt, store, &count_at(9, 0, 3, 1), 88)?;
     put(rt, store, &count_at(10, 0, 3, 1), 61)?;
     put(rt, store, &count_at(11, 0, 3, 1), 57)?;
-    let size = store.size();
-    let places = size.places;
-    let rows = size.rows;
+    let Size { places, rows } = store.size();
     println!(rt; "{rows} of {places} places are taken")
 }
 
 fn refuse(rt: &HostRuntime, fault: OpeningFault) -> io::Result<()> {
-    let refusal = fault.refusal();
-    let number = refusal.number;
+    let Refusal {
+        number,
+        place,
+        field,
+        ..
+    } = fault.refusal();
     print!(rt; "  refused with {number}")?;
-    if let Some(line) = refusal.place {
+    if let Some(line) = place {
         print!(rt; ", line {line}")?;
     }
-    if let Some(field) = refusal.field {
+    if let Some(field) = field {
         print!(rt; ", field {field}")?;
     }
     println!(rt; "")
 }
 
-// Opens the image in memory and corrects it there; whether it was opened.
-fn edit(rt: &HostRuntime, bytes: &mut [u8]) -> io::Result<bool> {
-    match open(&ALL_KINDS, &ARITIES, bytes) {
-        Ok(lines) => {
-            let mut store = lines.into_store();
-            correct(rt, &mut store)?;
-            Ok(true)
-        }
-        Err(fault) => {
-            refuse(rt, fault)?;
-            Ok(false)
-        }
-    }
-}
-
+// Opens the image in memory and corrects it there.
 fn follow(rt: &HostRuntime, path: &str) -> anyhow::Result<()> {
     println!(rt; "{path}")?;
     let mut bytes = fs::read(rt, path)?;
     show(rt, bytes.as_slice())?;
-    if edit(rt, bytes.as_mut_slice())? {
-        println!(rt; "and now")?;
-        show(rt, bytes.as_slice())?;
+    match open(&ALL_KINDS, &ARITIES, bytes.as_mut_slice()) {
+        Ok(lines) => correct(rt, &mut lines.into_store())?,
+        Err(fault) => return Ok(refuse(rt, fault)?),
     }
-    Ok(())
+    println!(rt; "and now")?;
+    Ok(show(rt, bytes.as_slice())?)
 }
 
 fn run(rt: &HostRuntime) -> anyhow::Result<()> {

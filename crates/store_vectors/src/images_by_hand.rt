@@ -18,8 +18,8 @@ fn arities() -> [u8; 32] {
 }
 
 // The number, line and field of a refusal, 0 for what there is not.
-fn refusal(image: &mut [u8]) -> (u8, usize, usize) {
-    match open(&ALL_KINDS, &arities(), image) {
+fn refusal_under(arities: &[u8; 32], image: &mut [u8]) -> (u8, usize, usize) {
+    match open(&ALL_KINDS, arities, image) {
         Ok(_) => (0, 0, 0),
         Err(fault) => {
             let refusal = fault.refusal();
@@ -32,13 +32,14 @@ fn refusal(image: &mut [u8]) -> (u8, usize, usize) {
     }
 }
 
+fn refusal(image: &mut [u8]) -> (u8, usize, usize) {
+    refusal_under(&arities(), image)
+}
+
 // Writes bytes from a place on, as far as the image goes.
 fn write(image: &mut [u8], at: usize, bytes: &[u8]) {
-    for (i, byte) in bytes.iter().enumerate() {
-        let place = at.saturating_add(i);
-        if place < image.len() {
-            image[place] = *byte;
-        }
+    for (place, byte) in image.iter_mut().skip(at).zip(bytes) {
+        *place = *byte;
     }
 }
 
@@ -51,39 +52,47 @@ fn two_lines() -> [u8; 256] {
     image
 }
 
-// The refusal of the two lines with these bytes at this place.
-fn damaged(at: usize, bytes: &[u8]) -> (u8, usize, usize) {
+// The refusal of the two lines with this text at this place.
+fn damaged(at: usize, text: &str) -> (u8, usize, usize) {
     let mut image = two_lines();
-    write(&mut image, at, bytes);
+    write(&mut image, at, text.as_bytes());
     refusal(&mut image)
 }
 
 #[test]
 fn each_field(rt: HostRuntime) {
     for field in 0..12usize {
-        assert_eq!(rt; damaged(field * 10, b"v"), (41, 0, field + 1));
-        assert_eq!(rt; damaged(LINE + field * 10, b"v"), (41, 1, field + 1));
+        assert_eq!(rt; damaged(field * 10, "v"), (41, 0, field + 1));
+        assert_eq!(rt; damaged(LINE + field * 10, "v"), (41, 1, field + 1));
     }
-    assert_eq!(rt; damaged(120, b"v"), (41, 0, 13));
-    assert_eq!(rt; damaged(127, b" "), (41, 0, 14));
-    assert_eq!(rt; damaged(126, b"\r"), (41, 0, 13));
-    assert_eq!(rt; damaged(0, b"\0"), (41, 0, 1));
+    for (at, text, field) in [
+        (120, "v", 13),
+        (127, " ", 14),
+        (126, "\r", 13),
+        (0, "\0", 1),
+    ] {
+        assert_eq!(rt; damaged(at, text), (41, 0, field), "{text:?} at {at}");
+    }
 }
 
 #[test]
 fn rows_and_counts(rt: HostRuntime) {
-    assert_eq!(rt; damaged(0, b""), (0, 0, 0));
-    assert_eq!(rt; damaged(10, b"N000000001"), (41, 0, 2));
-    assert_eq!(rt; damaged(10, b"V        0"), (41, 0, 2));
-    assert_eq!(rt; damaged(10, b"N         "), (41, 0, 2));
-    assert_eq!(rt; damaged(10, b"H      168"), (41, 0, 2));
-    assert_eq!(rt; damaged(0, b"S        2"), (41, 0, 3));
-    assert_eq!(rt; damaged(0, b"S       32"), (41, 0, 1));
-    assert_eq!(rt; damaged(120, b" 999999"), (0, 0, 0));
-    assert_eq!(rt; damaged(120, b"1000000"), (41, 0, 13));
-    assert_eq!(rt; damaged(120, b"0000005"), (41, 0, 13));
-    assert_eq!(rt; damaged(120, b"       "), (41, 0, 13));
-    assert_eq!(rt; damaged(LINE + 120, b"      5"), (41, 1, 13));
+    for (at, text, refusal) in [
+        (0, "", (0, 0, 0)),
+        (10, "N000000001", (41, 0, 2)),
+        (10, "V        0", (41, 0, 2)),
+        (10, "N         ", (41, 0, 2)),
+        (10, "H      168", (41, 0, 2)),
+        (0, "S        2", (41, 0, 3)),
+        (0, "S       32", (41, 0, 1)),
+        (120, " 999999", (0, 0, 0)),
+        (120, "1000000", (41, 0, 13)),
+        (120, "0000005", (41, 0, 13)),
+        (120, "       ", (41, 0, 13)),
+        (LINE + 120, "      5", (41, 1, 13)),
+    ] {
+        assert_eq!(rt; damaged(at, text), refusal, "{text:?} at {at}");
+    }
 }
 
 #[test]
@@ -96,41 +105,35 @@ fn a_row_twice(rt: HostRuntime) {
     assert_eq!(rt; refusal(&mut image), (0, 0, 0));
 }
 
-// The refusal of the first bytes of the two lines, under these arities.
-fn cut(len: usize, arities: &[u8; 32]) -> u8 {
+// The refusal's number of the first bytes of the two lines, under these arities.
+fn cut(len: usize, arities: &[u8; 32]) -> Option<u8> {
     let mut image = two_lines();
-    if len > 256 {
-        return 0;
-    }
-    match open(&ALL_KINDS, arities, &mut image[0..len]) {
-        Ok(_) => 0,
-        Err(fault) => fault.refusal().number,
-    }
+    let (number, _, _) = refusal_under(arities, image.get_mut(..len)?);
+    Some(number)
 }
 
 #[test]
 fn lengths(rt: HostRuntime) {
-    assert_eq!(rt; cut(0, &arities()), 40);
-    assert_eq!(rt; cut(127, &arities()), 40);
-    assert_eq!(rt; cut(128, &arities()), 0);
-    assert_eq!(rt; cut(129, &arities()), 40);
+    for (len, number) in [(0, 40), (127, 40), (128, 0), (129, 40)] {
+        assert_eq!(rt; cut(len, &arities()), Some(number), "{len}");
+    }
 }
 
 #[test]
 fn the_signature_after_the_length(rt: HostRuntime) {
     let mut arities = arities();
     arities[5] = 8;
-    assert_eq!(rt; cut(127, &arities), 40);
-    assert_eq!(rt; cut(128, &arities), 19);
+    assert_eq!(rt; cut(127, &arities), Some(40));
+    assert_eq!(rt; cut(128, &arities), Some(19));
 }
 
 // The refusal of so many free lines.
 fn free_lines(rt: &HostRuntime, count: usize) -> Result<u8, AllocError> {
-    let mut image = vec![in rt.alloc(); b' '; 4097 * 128]?;
-    for k in 0..4097usize {
-        write(image.as_mut_slice(), k * 128 + 127, b"\n");
+    let mut image = vec![in rt.alloc(); b' '; 4097 * LINE]?;
+    for line in image.as_mut_slice().as_chunks_mut::<LINE>().0 {
+        line[LINE - 1] = b'\n';
     }
-    image.truncate(count.saturating_mul(128));
+    image.truncate(count.saturating_mul(LINE));
     Ok(refusal(image.as_mut_slice()).0)
 }
 

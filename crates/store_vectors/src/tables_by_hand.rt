@@ -35,30 +35,29 @@ fn put<S: Store>(store: &mut S, n: u32, count: u32) -> u8 {
 }
 
 fn find<S: Store>(store: &S, n: u32) -> Option<u32> {
-    let key = row(n)?;
-    let count = store.find(&key)?;
-    Some(count.value)
+    Some(store.find(&row(n)?)?.value)
 }
 
 fn remove<S: Store>(store: &mut S, n: u32) -> bool {
-    match row(n) {
-        Some(key) => store.remove(&key),
-        None => false,
-    }
+    row(n).is_some_and(|key| store.remove(&key))
 }
 
 #[test]
 fn a_table_fills_up(rt: HostRuntime) -> Result<(), Fail> {
     let mut records = [Record::Free; 2];
     let mut table = Table::new(&mut records)?;
-    assert_eq!(rt; put(&mut table, 1, 10), 0);
-    assert_eq!(rt; put(&mut table, 2, 999_999), 0);
-    assert_eq!(rt; put(&mut table, 3, 30), 31);
-    assert_eq!(rt; put(&mut table, 2, 1_000_000), 27);
-    assert_eq!(rt; put(&mut table, 1, 11), 0);
-    assert_eq!(rt; find(&table, 1), Some(11));
-    assert_eq!(rt; find(&table, 2), Some(999_999));
-    assert_eq!(rt; find(&table, 3), None);
+    for (n, count, refusal) in [
+        (1, 10, 0),
+        (2, 999_999, 0),
+        (3, 30, 31),
+        (2, 1_000_000, 27),
+        (1, 11, 0),
+    ] {
+        assert_eq!(rt; put(&mut table, n, count), refusal, "row {n}: {count}");
+    }
+    for (n, count) in [(1, Some(11)), (2, Some(999_999)), (3, None)] {
+        assert_eq!(rt; find(&table, n), count, "row {n}");
+    }
     assert!(rt; remove(&mut table, 1));
     assert!(rt; !remove(&mut table, 1));
     assert_eq!(rt; put(&mut table, 3, 30), 0);

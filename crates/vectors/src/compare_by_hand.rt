@@ -1,6 +1,6 @@
+use crate::made::{cell, condition, on};
 use compare::outside::{Comparison, Written, compare};
 use kinds::bank::ALL_KINDS;
-use kinds::condition::Condition;
 use refusals::Fault;
 use terms::cell::{BLANK, Cell};
 use terms::constraint::Constraint;
@@ -20,15 +20,8 @@ const V0: Cell = Cell {
     number: 0,
 };
 
-fn cell(letter: u8, number: u32) -> Cell {
-    Cell { letter, number }
-}
-
 fn on_v0(form: u8, a: u32, b: u32) -> Constraint {
-    Constraint {
-        variable: 0,
-        condition: Condition { form, a, b },
-    }
+    on(0, condition(form, a, b))
 }
 
 // The last cell of the sample, as all pairs here end with their third cell at the latest; a blank for a clash, the refusal's number under `!`.
@@ -41,75 +34,64 @@ fn last_of(left: Written, right: Written) -> Cell {
     match compare(&ALL_KINDS, &arities, left, right, &mut sheet, &mut bindings) {
         Ok(Comparison::Clash) => BLANK,
         Ok(Comparison::Overlap(sample)) => {
-            if sample.cells[2].letter == b' ' {
-                sample.cells[1]
-            } else {
-                sample.cells[2]
-            }
+            let [_, second, third, ..] = sample.cells;
+            if third == BLANK { second } else { third }
         }
         Err(fault) => cell(b'!', u32::from(fault.refusal().number)),
     }
 }
 
 fn bare(left: &[Cell], right: &[Cell]) -> Cell {
-    let left = Written {
-        cells: left,
+    let unconstrained = |cells| Written {
+        cells,
         constraints: &[],
     };
-    let right = Written {
-        cells: right,
-        constraints: &[],
-    };
-    last_of(left, right)
+    last_of(unconstrained(left), unconstrained(right))
 }
 
 // On S3 V0 twice.
 fn under(left: &[Constraint], right: &[Constraint]) -> Cell {
-    let left = Written {
+    let constrained = |constraints| Written {
         cells: &[S3, V0],
-        constraints: left,
+        constraints,
     };
-    let right = Written {
-        cells: &[S3, V0],
-        constraints: right,
-    };
-    last_of(left, right)
+    last_of(constrained(left), constrained(right))
 }
 
 #[test]
 fn structure(rt: HostRuntime) {
     let n1 = cell(b'N', 1);
-    assert_eq!(rt; bare(&[S2, V0, V0], &[S2, n1, cell(b'N', 2)]), BLANK);
-    assert_eq!(rt; bare(&[S2, V0, V0], &[S2, V0, S3, V0]), BLANK);
-    assert_eq!(rt;
-        bare(&[S2, V0, cell(b'V', 1)], &[S2, V0, V0]),
-        cell(b'S', 0)
-    );
-    assert_eq!(rt; bare(&[S2, V0, n1], &[S2, n1, V0]), n1);
-    assert_eq!(rt; bare(&[S3, cell(b'N', 7)], &[S3, cell(b'H', 7)]), BLANK);
-    assert_eq!(rt; bare(&[S3], &[S3, V0]), cell(b'!', 21));
-    assert_eq!(rt; bare(&[S3, V0], &[S3, cell(b'Q', 0)]), cell(b'!', 20));
+    let wanted: [(&[Cell], &[Cell], Cell); 7] = [
+        (&[S2, V0, V0], &[S2, n1, cell(b'N', 2)], BLANK),
+        (&[S2, V0, V0], &[S2, V0, S3, V0], BLANK),
+        (&[S2, V0, cell(b'V', 1)], &[S2, V0, V0], cell(b'S', 0)),
+        (&[S2, V0, n1], &[S2, n1, V0], n1),
+        (&[S3, cell(b'N', 7)], &[S3, cell(b'H', 7)], BLANK),
+        (&[S3], &[S3, V0], cell(b'!', 21)),
+        (&[S3, V0], &[S3, cell(b'Q', 0)], cell(b'!', 20)),
+    ];
+    for (left, right, last) in wanted {
+        assert_eq!(rt; bare(left, right), last, "{left:?} and {right:?}");
+    }
 }
 
 #[test]
 fn conditions(rt: HostRuntime) {
     let not_three = on_v0(b'X', 3, 0);
-    assert_eq!(rt; under(&[on_v0(b'B', 1, 5)], &[not_three]), cell(b'N', 1));
-    assert_eq!(rt; under(&[on_v0(b'B', 3, 3)], &[not_three]), BLANK);
-    assert_eq!(rt;
-        under(
+    let at_seven = on_v0(b'W', 31, 128);
+    let wanted: [(&[Constraint], &[Constraint], Cell); 6] = [
+        (&[on_v0(b'B', 1, 5)], &[not_three], cell(b'N', 1)),
+        (&[on_v0(b'B', 3, 3)], &[not_three], BLANK),
+        (
             &[on_v0(b'B', 1, 2), on_v0(b'X', 1, 0)],
             &[on_v0(b'X', 2, 0)],
+            BLANK,
         ),
-        BLANK
-    );
-    assert_eq!(rt; under(&[on_v0(b'B', 0, 9)], &[on_v0(b'M', 1, 0)]), BLANK);
-    assert_eq!(rt;
-        under(&[on_v0(b'W', 31, 128)], &[on_v0(b'W', 2, 16_777_215)]),
-        cell(b'H', 31)
-    );
-    assert_eq!(rt;
-        under(&[on_v0(b'W', 31, 128)], &[on_v0(b'W', 32, 16_777_215)]),
-        BLANK
-    );
+        (&[on_v0(b'B', 0, 9)], &[on_v0(b'M', 1, 0)], BLANK),
+        (&[at_seven], &[on_v0(b'W', 2, 16_777_215)], cell(b'H', 31)),
+        (&[at_seven], &[on_v0(b'W', 32, 16_777_215)], BLANK),
+    ];
+    for (left, right, last) in wanted {
+        assert_eq!(rt; under(left, right), last, "{left:?} and {right:?}");
+    }
 }

@@ -7,4 +7,6 @@ mod compare_by_hand;
 #[cfg(test)]
 mod kinds_by_hand;
 #[cfg(test)]
+mod made;
+#[cfg(test)]
 mod terms_by_hand;

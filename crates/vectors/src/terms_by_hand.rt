@@ -1,16 +1,13 @@
+use crate::made::{cell, condition, on};
 use kinds::bank::ALL_KINDS;
-use kinds::condition::Condition;
 use refusals::Fault;
 use std::test::Fail;
 use terms::cell::Cell;
 use terms::constraint::{Constraint, NO_CONSTRAINT};
+use terms::fault::PatternFault;
 use terms::pattern::Pattern;
 use terms::row::Row;
 use terms::signature::Signature;
-
-fn cell(letter: u8, number: u32) -> Cell {
-    Cell { letter, number }
-}
 
 // Symbol 1 has seven arguments, symbol 2 two and symbol 3 one.
 fn arities() -> [u8; 32] {
@@ -22,11 +19,8 @@ fn arities() -> [u8; 32] {
 }
 
 // The number and the place of a refusal; 0 and 0 if there is none.
-fn pattern_refusal(cells: &[Cell], constraints: &[Constraint]) -> (u8, usize) {
-    let Ok(signature) = Signature::new(arities()) else {
-        return (19, 0);
-    };
-    match Pattern::read(&signature, &ALL_KINDS, cells, constraints) {
+fn refusal<T: Drop>(read: Result<T, PatternFault>) -> (u8, usize) {
+    match read {
         Ok(_) => (0, 0),
         Err(fault) => {
             let refusal = fault.refusal();
@@ -35,73 +29,71 @@ fn pattern_refusal(cells: &[Cell], constraints: &[Constraint]) -> (u8, usize) {
     }
 }
 
+fn pattern_refusal(cells: &[Cell], constraints: &[Constraint]) -> (u8, usize) {
+    let read = |signature| Pattern::read(&signature, &ALL_KINDS, cells, constraints);
+    refusal(Signature::new(arities()).and_then(read))
+}
+
 fn row_refusal(cells: &[Cell]) -> (u8, usize) {
-    let Ok(signature) = Signature::new(arities()) else {
-        return (19, 0);
-    };
-    match Row::read(&signature, &ALL_KINDS, cells) {
-        Ok(_) => (0, 0),
-        Err(fault) => {
-            let refusal = fault.refusal();
-            (refusal.number, refusal.place.unwrap_or(99))
-        }
-    }
+    let read = |signature| Row::read(&signature, &ALL_KINDS, cells);
+    refusal(Signature::new(arities()).and_then(read))
 }
 
 fn signature_refusal(symbol: usize, arity: u8) -> Option<usize> {
     let mut arities = arities();
-    if symbol < 32 {
-        arities[symbol] = arity;
-    }
-    match Signature::new(arities) {
-        Ok(_) => None,
-        Err(fault) => fault.refusal().place,
-    }
+    *arities.get_mut(symbol)? = arity;
+    Signature::new(arities).err()?.refusal().place
 }
 
 #[test]
 fn signatures(rt: HostRuntime) {
-    assert_eq!(rt; signature_refusal(31, 7), None);
-    assert_eq!(rt; signature_refusal(31, 8), Some(31));
-    assert_eq!(rt; signature_refusal(0, 1), Some(0));
-    assert_eq!(rt; signature_refusal(2, 255), Some(2));
+    for (symbol, arity, place) in [
+        (31, 7, None),
+        (31, 8, Some(31)),
+        (0, 1, Some(0)),
+        (2, 255, Some(2)),
+    ] {
+        assert_eq!(rt;
+            signature_refusal(symbol, arity),
+            place,
+            "{symbol}: {arity}"
+        );
+    }
 }
 
 #[test]
 fn structure_of_patterns(rt: HostRuntime) {
     let s2 = cell(b'S', 2);
     let n1 = cell(b'N', 1);
-    assert_eq!(rt; pattern_refusal(&[], &[]), (21, 0));
-    assert_eq!(rt; pattern_refusal(&[n1], &[]), (21, 0));
-    assert_eq!(rt; pattern_refusal(&[cell(b'V', 0)], &[]), (21, 0));
-    assert_eq!(rt; pattern_refusal(&[s2, n1], &[]), (21, 2));
-    assert_eq!(rt; pattern_refusal(&[s2, n1, n1], &[]), (0, 0));
-    assert_eq!(rt; pattern_refusal(&[s2, n1, n1, n1], &[]), (21, 3));
-    assert_eq!(rt;
-        pattern_refusal(&[s2, cell(b'V', 7), cell(b'V', 8)], &[]),
-        (21, 2)
-    );
-    assert_eq!(rt; pattern_refusal(&[s2, cell(b'S', 32), n1], &[]), (21, 1));
-    assert_eq!(rt; pattern_refusal(&[s2, cell(b'S', 31), n1], &[]), (0, 0));
+    let wanted: [(&[Cell], (u8, usize)); 9] = [
+        (&[], (21, 0)),
+        (&[n1], (21, 0)),
+        (&[cell(b'V', 0)], (21, 0)),
+        (&[s2, n1], (21, 2)),
+        (&[s2, n1, n1], (0, 0)),
+        (&[s2, n1, n1, n1], (21, 3)),
+        (&[s2, cell(b'V', 7), cell(b'V', 8)], (21, 2)),
+        (&[s2, cell(b'S', 32), n1], (21, 1)),
+        (&[s2, cell(b'S', 31), n1], (0, 0)),
+    ];
+    for (cells, refusal) in wanted {
+        assert_eq!(rt; pattern_refusal(cells, &[]), refusal, "{cells:?}");
+    }
 }
 
 #[test]
 fn values_before_structure(rt: HostRuntime) {
     let s2 = cell(b'S', 2);
     let n1 = cell(b'N', 1);
-    assert_eq!(rt;
-        pattern_refusal(&[s2, cell(b'N', 1_000_000_000), n1], &[]),
-        (20, 1)
-    );
-    assert_eq!(rt;
-        pattern_refusal(&[s2, n1, n1, cell(b'H', 168)], &[]),
-        (20, 3)
-    );
-    assert_eq!(rt; pattern_refusal(&[cell(b' ', 0)], &[]), (20, 0));
-    assert_eq!(rt;
-        pattern_refusal(&[s2, cell(b'H', 167), cell(b'C', 23)], &[]),
-        (0, 0)
-    );
+    let wanted: [(&[Cell], (u8, usize)); 4] = [
+        (&[s2, cell(b'N', 1_000_000_000), n1], (20, 1)),
+        (&[s2, n1, n1, cell(b'H', 168)], (20, 3)),
+        (&[cell(b' ', 0)], (20, 0)),
+        (&[s2, cell(b'H', 167), cell(b'C', 23)], (0, 0)),
+    ];
+    for (cells, refusal) in wanted {
+        assert_eq!(rt; pattern_refusal(cells, &[]), refusal, "{cells:?}");
+    }
     assert_eq!(rt; row_refusal(&[s2, cell(b'V', 0), n1]), (21, 1));
 }
 
@@ -137,18 +129,8 @@ fn exactly_12_cells(rt: HostRuntime) {
 #[test]
 fn constraints(rt: HostRuntime) {
     let s3 = [cell(b'S', 3), cell(b'V', 0)];
-    let fine = Constraint {
-        variable: 7,
-        condition: Condition {
-            form: b'W',
-            a: 31,
-            b: 128,
-        },
-    };
-    let high = Constraint {
-        variable: 8,
-        condition: fine.condition,
-    };
+    let fine = on(7, condition(b'W', 31, 128));
+    let high = on(8, condition(b'W', 31, 128));
     assert_eq!(rt; pattern_refusal(&s3, &[fine; 8]), (0, 0));
     assert_eq!(rt; pattern_refusal(&s3, &[fine; 9]), (23, 8));
     assert_eq!(rt; pattern_refusal(&s3, &[fine, high]), (23, 1));
@@ -159,9 +141,10 @@ fn constraints(rt: HostRuntime) {
 #[test]
 fn rows_are_equal_by_their_cells(rt: HostRuntime) -> Result<(), Fail> {
     let signature = Signature::new(arities())?;
-    let one = Row::read(&signature, &ALL_KINDS, &[cell(b'S', 3), cell(b'N', 1)])?;
-    let same = Row::read(&signature, &ALL_KINDS, &[cell(b'S', 3), cell(b'N', 1)])?;
-    let other = Row::read(&signature, &ALL_KINDS, &[cell(b'S', 3), cell(b'N', 2)])?;
+    let row = |number| Row::read(&signature, &ALL_KINDS, &[cell(b'S', 3), cell(b'N', number)]);
+    let one = row(1)?;
+    let same = row(1)?;
+    let other = row(2)?;
     assert!(rt; one == same);
     assert!(rt; one != other);
     assert_eq!(rt; one.cells().len(), 2);

@@ -1,12 +1,7 @@
 use Rattle.std.proofs.Common.{⊎_elim, arith}
 use Rattle.std.proofs.lemmas.Bool.{cases_lt}
-use Rattle.kinds.proofs.Leaps.{round_none, round_over, round_stays, round_low}
+use Rattle.kinds.proofs.Leaps.{round_none, round_over, round_low}
 use Rattle.kinds.proofs.common.smallest_code.Goals as goal
-
-pub returns-in_err-start : goal.returns-in_err-start
-returns-in_err-start g c =
-    rw c.from_residual.ensures
-    (λ k _ m. ⊎_elim (λ b. c.rise.invariant k b m) (λ b. c.in_err-start.ensures k b m.0) (cases_lt k c.rise.v))
 
 pub returns-in_err-low : goal.returns-in_err-low
 returns-in_err-low g c =
@@ -15,14 +10,6 @@ returns-in_err-low g c =
     (λ b. round_none (g.K.Kind.means c.args.kind.now) c.args.first c.args.rest.now c.rise.v c.in_ok-start.start
     c.in_ok-start.ensures c.in_err-low.ensures k b m)
     (cases_lt k c.rise.v))
-
-pub returns-then-low-v : goal.returns-then-low-v
-returns-then-low-v g c = (
-  omega arith,
-  round_stays (g.K.Kind.means c.args.kind.now) c.args.first c.args.rest.now c.rise.v c.in_ok-start.start
-      c.in_ok-start.ensures c.in_ok-low.low c.in_ok-low.ensures c.if-low-v.true,
-  λ k _ b m. c.rise.invariant k b m,
-)
 
 pub rise-smaller : goal.rise-smaller
 rise-smaller g c =
