@@ -141,29 +141,37 @@ impl<'a> fmt::Display for Told<'a> {
 }
 
 // The cells of a sample before its blanks.
-fn filled(cells: &[Cell]) -> &[Cell] {
-    for (i, cell) in cells.iter().enumerate() {
-        if cell.letter == b' ' {
-            return &cells[0..i];
-        }
+fn filled(sample: &Sample) -> &[Cell] {
+    let cells = &sample.cells[..];
+    match cells.iter().position(|cell| cell.letter == b' ') {
+        Some(end) => &cells[..end],
+        None => cells,
     }
-    cells
+}
+
+// What a sample ends in where more cells follow.
+fn ending(sample: &Sample) -> &'static str {
+    if sample.more { " .." } else { "" }
+}
+
+// A sample as it is written on a line, a blank before each cell.
+#[derive(Clone, Copy)]
+pub struct WrittenSample(pub Sample);
+
+impl fmt::Display for WrittenSample {
+    fn fmt<W: fmt::Write>(&self, f: &mut fmt::Formatter<W>) -> fmt::Result {
+        write!(f, "{}{}", Written(filled(&self.0)), ending(&self.0))
+    }
 }
 
 // The row that shows a conflict.
 #[derive(Clone, Copy)]
 pub struct Shown(pub Sample);
 
-fn tell_sample<W: fmt::Write>(f: &mut fmt::Formatter<W>, sample: Sample) -> fmt::Result {
-    let cells = filled(&sample.cells);
-    let row = RowWords(cells);
-    let written = Written(cells);
-    let more = if sample.more { " .." } else { "" };
-    write!(f, "{row}{more} (written{written}{more})")
-}
-
 impl fmt::Display for Shown {
     fn fmt<W: fmt::Write>(&self, f: &mut fmt::Formatter<W>) -> fmt::Result {
-        tell_sample(f, self.0)
+        let row = RowWords(filled(&self.0));
+        let written = WrittenSample(self.0);
+        write!(f, "{row}{} (written{written})", ending(&self.0))
     }
 }
