@@ -14,7 +14,7 @@ use manager::fault::ManagerFault;
 use runs::call::{Answer, Call};
 use runs::run::run;
 use std::io;
-use stores::entry::Record;
+use stores::entry::{Record, Size};
 use stores::store::Store;
 use stores::table::Table;
 use terms::cell::BLANK;
@@ -107,15 +107,11 @@ pub fn follow<K: Kind + Drop, S: Store>(
 
 // The rows of a store with their counts.
 pub fn holdings<S: Store>(rt: &HostRuntime, store: &S) -> io::Result<()> {
-    let size = store.size();
-    let places = size.places;
-    let rows = Many {
-        count: size.rows as u64,
-        noun: "row",
-    };
-    let free = size.places.saturating_sub(size.rows);
-    println!(rt; "The model base holds {rows} in {places} places; {free} are free:")?;
-    for entry in (0..size.rows).filter_map(|k| store.row(k)) {
+    let Size { places, rows } = store.size();
+    let held = Many::of(rows as u64, "row");
+    let free = places.saturating_sub(rows);
+    println!(rt; "The model base holds {held} in {places} places; {free} are free:")?;
+    for entry in (0..rows).filter_map(|k| store.row(k)) {
         let row = RowWords(entry.key.cells());
         println!(rt; "  {:>6} for {row}", entry.count.value)?;
     }

@@ -10,12 +10,12 @@ use terms::cell::Cell;
 use terms::pattern::Pattern;
 use terms::signature::Signature;
 
-// What a manager is lent, call by call.
+// What a manager is lent as its memory.
 #[derive(Clone, Copy)]
 pub struct Rolls {
-    pub transactions: [Transaction; 16],
-    pub reservations: [Reservation; 64],
-    pub changes: [PendingChange; 128],
+    transactions: [Transaction; 16],
+    reservations: [Reservation; 64],
+    changes: [PendingChange; 128],
 }
 
 impl Rolls {
