@@ -4,7 +4,6 @@ use crate::failure::Failure;
 use crate::saving::save;
 use image::open::open;
 use kinds::bank::ALL_KINDS;
-use manager::memory::Memory;
 use sheets::answering::answer_sheet;
 use std::io::{Read, Write};
 use telling::memory::Rolls;
@@ -12,23 +11,13 @@ use telling::model::ARITIES;
 
 // The answers, and in the image exactly the rows that were committed; a damaged image is refused as it is.
 fn answers(rt: &HostRuntime, image: &mut [u8], requests: &[u8]) -> Result<Vec<u8>, Failure> {
-    let Some(rolls) = Rolls::new() else {
-        return Err(Failure::NoMemory);
-    };
-    let mut transactions = rolls.transactions;
-    let mut reservations = rolls.reservations;
-    let mut changes = rolls.changes;
-    let mut memory = Memory {
-        transactions: &mut transactions,
-        reservations: &mut reservations,
-        changes: &mut changes,
-    };
+    let mut rolls = Rolls::new().ok_or(Failure::NoMemory)?;
     let mut store = open(&ALL_KINDS, &ARITIES, image)?.into_store();
     answer_sheet(
         rt.alloc(),
         ALL_KINDS,
         ARITIES,
-        &mut memory,
+        &mut rolls.memory(),
         &mut store,
         requests,
     )

@@ -1,8 +1,9 @@
 // What the consultants sent, and what the planners do with it.
 use std::alloc::AllocError;
+use telling::day::Day;
 use telling::model::{
-    COUNT, FRIDAY, MONDAY, OPPOSITE, SATURDAY, TUESDAY, TURN, WEDNESDAY, class, count_row,
-    counts_at, hour, number, one_of, within_hours,
+    ALL_DAY, COUNT, OPPOSITE, TURN, WEEKDAYS, WEEKENDS, class, count_row, counts_at, number,
+    one_of, within_hours,
 };
 use telling::script::{Counted, Script};
 use terms::cell::Cell;
@@ -14,12 +15,8 @@ const HEAVY: u32 = 4;
 
 const BUSES: u32 = 5;
 
-// Monday to Friday; Monday, Wednesday and Friday; Saturday and Sunday.
-const WEEKDAYS: u32 = 31;
-
+// Monday, Wednesday and Friday.
 const EVERY_OTHER_DAY: u32 = 21;
-
-const WEEKENDS: u32 = 96;
 
 // From seven to nine, from nine to twelve, and both peaks: from seven to nine and from sixteen to eighteen.
 const MORNING: u32 = 384;
@@ -28,14 +25,8 @@ const FORENOON: u32 = 3_584;
 
 const PEAKS: u32 = 196_992;
 
-const ALL_DAY: u32 = 16_777_215;
-
 // Classes 4 and 5.
 const HEAVY_AND_BUSES: u32 = 48;
-
-fn counted(row: [Cell; 7], vehicles: u32) -> Counted<7> {
-    Counted { row, vehicles }
-}
 
 // Straight on at junction 12, from arm 1 to arm 3.
 fn on_12(hour: Cell, class: u32) -> [Cell; 7] {
@@ -52,7 +43,7 @@ fn opposite() -> [Cell; 8] {
     [
         COUNT,
         number(12),
-        hour(MONDAY, 7),
+        Day::Monday.at(7),
         class(CARS),
         TURN,
         number(3),
@@ -86,15 +77,15 @@ impl Sheets {
     pub fn new() -> Sheets {
         Sheets {
             mornings_12: [
-                counted(on_12(hour(MONDAY, 7), CARS), 612),
-                counted(on_12(hour(MONDAY, 8), CARS), 745),
-                counted(on_12(hour(MONDAY, 7), HEAVY), 38),
-                counted(on_12(hour(TUESDAY, 7), CARS), 171),
+                Counted::new(on_12(Day::Monday.at(7), CARS), 612),
+                Counted::new(on_12(Day::Monday.at(8), CARS), 745),
+                Counted::new(on_12(Day::Monday.at(7), HEAVY), 38),
+                Counted::new(on_12(Day::Tuesday.at(7), CARS), 171),
             ],
             heavy: [
-                counted(on_12(hour(MONDAY, 9), HEAVY), 41),
-                counted(on_14(hour(MONDAY, 7), HEAVY), 27),
-                counted(on_14(hour(WEDNESDAY, 16), BUSES), 12),
+                Counted::new(on_12(Day::Monday.at(9), HEAVY), 41),
+                Counted::new(on_14(Day::Monday.at(7), HEAVY), 27),
+                Counted::new(on_14(Day::Wednesday.at(16), BUSES), 12),
             ],
             at_12: counts_at(12),
             at_14: counts_at(14),
@@ -110,12 +101,12 @@ impl Sheets {
             ],
             weekends: [within_hours(0, WEEKENDS, ALL_DAY)],
             opposite: opposite(),
-            monday_eight: on_12(hour(MONDAY, 8), CARS),
-            tuesday_seven: on_12(hour(TUESDAY, 7), CARS),
-            heavy_at_eight: on_12(hour(MONDAY, 8), HEAVY),
-            heavy_at_seven: on_14(hour(MONDAY, 7), HEAVY),
-            class_24: on_14(hour(FRIDAY, 17), 24),
-            saturday: on_14(hour(SATURDAY, 11), CARS),
+            monday_eight: on_12(Day::Monday.at(8), CARS),
+            tuesday_seven: on_12(Day::Tuesday.at(7), CARS),
+            heavy_at_eight: on_12(Day::Monday.at(8), HEAVY),
+            heavy_at_seven: on_14(Day::Monday.at(7), HEAVY),
+            class_24: on_14(Day::Friday.at(17), 24),
+            saturday: on_14(Day::Saturday.at(11), CARS),
         }
     }
 }

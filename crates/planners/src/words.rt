@@ -1,30 +1,13 @@
 // Calls and answers in sentences.
-use compare::sample::Sample;
-use manager::call::{Answer, Call};
+use kinds::condition::Condition;
 use manager::fault::ManagerFault;
 use refusals::Fault;
+use runs::call::{Answer, Call};
 use std::fmt;
-use stores::count::Count;
-use terms::cell::Cell;
+use telling::term::Written;
 use terms::constraint::Constraint;
 
-// Cells as they are written on a line.
-#[derive(Clone, Copy)]
-pub struct Cells<'a>(pub &'a [Cell]);
-
-impl<'a> fmt::Display for Cells<'a> {
-    fn fmt<W: fmt::Write>(&self, f: &mut fmt::Formatter<W>) -> fmt::Result {
-        for cell in self.0 {
-            if cell.letter != b' ' {
-                let letter = char::from(cell.letter);
-                let number = cell.number;
-                write!(f, " {letter}{number}")?;
-            }
-        }
-        Ok(())
-    }
-}
-
+// Constraints as they are written on a line, a blank before each.
 #[derive(Clone, Copy)]
 pub struct Constraints<'a>(pub &'a [Constraint]);
 
@@ -32,10 +15,8 @@ impl<'a> fmt::Display for Constraints<'a> {
     fn fmt<W: fmt::Write>(&self, f: &mut fmt::Formatter<W>) -> fmt::Result {
         for constraint in self.0 {
             let variable = constraint.variable;
-            let form = char::from(constraint.condition.form);
-            let a = constraint.condition.a;
-            let b = constraint.condition.b;
-            write!(f, " V{variable}:{form}:{a}:{b}")?;
+            let Condition { form, a, b } = constraint.condition;
+            write!(f, " V{variable}:{}:{a}:{b}", char::from(form))?;
         }
         Ok(())
     }
@@ -54,18 +35,15 @@ impl<'a> fmt::Display for Asked<'a> {
                 right,
                 cells,
                 constraints,
-            } => {
-                let right = char::from(right);
-                let cells = Cells(cells);
-                let constraints = Constraints(constraints);
-                write!(
-                    f,
-                    "transaction {transaction} reserves for {right}:{cells}{constraints}"
-                )
-            }
+            } => write!(
+                f,
+                "transaction {transaction} reserves for {}:{}{}",
+                char::from(right),
+                Written(cells),
+                Constraints(constraints)
+            ),
             Call::Look { transaction, cells } => {
-                let cells = Cells(cells);
-                write!(f, "transaction {transaction} looks at{cells}")
+                write!(f, "transaction {transaction} looks at{}", Written(cells))
             }
             Call::Survey {
                 transaction,
@@ -78,24 +56,18 @@ impl<'a> fmt::Display for Asked<'a> {
                 transaction,
                 cells,
                 count,
-            } => {
-                let cells = Cells(cells);
-                write!(f, "transaction {transaction} writes {count} for{cells}")
-            }
+            } => write!(
+                f,
+                "transaction {transaction} writes {count} for{}",
+                Written(cells)
+            ),
             Call::Strike { transaction, cells } => {
-                let cells = Cells(cells);
-                write!(f, "transaction {transaction} strikes{cells}")
+                write!(f, "transaction {transaction} strikes{}", Written(cells))
             }
             Call::Commit { transaction } => write!(f, "transaction {transaction} commits"),
             Call::Abandon { transaction } => write!(f, "transaction {transaction} abandons"),
+            Call::Tally => write!(f, "the tally is asked for"),
         }
-    }
-}
-
-fn value(found: Option<Count>) -> Option<u32> {
-    match found {
-        Some(count) => Some(count.value),
-        None => None,
     }
 }
 
@@ -115,37 +87,13 @@ impl fmt::Display for Told {
                 f,
                 "refused with 30: reservation {reservation} of transaction {transaction} overlaps"
             ),
-            Answer::Refused(fault) => {
-                let number = fault.refusal().number;
-                write!(f, "refused with {number}")
-            }
+            Answer::Refused(fault) => write!(f, "refused with {}", fault.refusal().number),
             Answer::Number(number) => write!(f, "number {number}"),
-            Answer::Found(found) => match value(found) {
-                Some(count) => write!(f, "{count}"),
-                None => write!(f, "no such row"),
-            },
+            Answer::Found(Some(count)) => write!(f, "{}", count.value),
+            Answer::Found(None) => write!(f, "no such row"),
             Answer::Figures(rows, total) => write!(f, "{rows} rows, {total} vehicles"),
             Answer::Done => write!(f, "done"),
+            Answer::Tally(tally) => write!(f, "tally {tally}"),
         }
-    }
-}
-
-// The sample of a conflict.
-#[derive(Clone, Copy)]
-pub struct Shown(pub Sample);
-
-impl fmt::Display for Shown {
-    fn fmt<W: fmt::Write>(&self, f: &mut fmt::Formatter<W>) -> fmt::Result {
-        for cell in self.0.cells {
-            if cell.letter != b' ' {
-                let letter = char::from(cell.letter);
-                let number = cell.number;
-                write!(f, " {letter}{number}")?;
-            }
-        }
-        if self.0.more {
-            write!(f, " ..")?;
-        }
-        Ok(())
     }
 }

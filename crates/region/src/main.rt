@@ -37,22 +37,18 @@ fn work(rt: &HostRuntime, image: &mut [u8], script: &Script) -> anyhow::Result<(
 
 // A line without its blanks at the end.
 fn text(line: &[u8]) -> &str {
-    match std::str::from_utf8(line) {
-        Ok(text) if text.trim_end().is_empty() => "free",
-        Ok(text) => text.trim_end(),
+    match std::str::from_utf8(line).map(str::trim_end) {
+        Ok("") => "free",
+        Ok(text) => text,
         Err(_) => "not text",
     }
 }
 
 fn show_changes(rt: &HostRuntime, before: &[u8], after: &[u8]) -> io::Result<()> {
     let lines = before.chunks_exact(128).zip(after.chunks_exact(128));
-    for (k, (old, new)) in lines.enumerate() {
-        if old != new {
-            let old = text(old);
-            let new = text(new);
-            println!(rt; "  line {k} was {old}")?;
-            println!(rt; "  and is now {new}")?;
-        }
+    for (k, (old, new)) in lines.enumerate().filter(|(_, (old, new))| old != new) {
+        println!(rt; "  line {k} was {}", text(old))?;
+        println!(rt; "  and is now {}", text(new))?;
     }
     Ok(())
 }

@@ -1,8 +1,8 @@
 // What the consultants sent, and what the planners do with it.
 use std::alloc::AllocError;
+use telling::day::Day;
 use telling::model::{
-    COUNT, FRIDAY, MONDAY, TUESDAY, TURN, WEDNESDAY, between, count_row, counts_at, hour, variable,
-    within_hours,
+    COUNT, TURN, WEEKDAYS, between, count_row, counts_at, variable, within_hours,
 };
 use telling::script::{Counted, Script};
 use terms::cell::Cell;
@@ -12,23 +12,17 @@ const CARS: u32 = 2;
 
 const HEAVY: u32 = 4;
 
-// Monday to Friday; from seven to ten.
-const WEEKDAYS: u32 = 31;
-
+// From seven to ten.
 const MORNING: u32 = 896;
 
 // Cars straight on at junction 21, from arm 1 to arm 3.
-fn on_21(day: u8, at: u8) -> [Cell; 7] {
-    count_row(21, hour(day, at), CARS, 1, 3)
+fn on_21(day: Day, clock: u8) -> [Cell; 7] {
+    count_row(21, day.at(clock), CARS, 1, 3)
 }
 
 // Cars that turn back on arm 3 of junction 57.
-fn back_on_57(day: u8, at: u8) -> [Cell; 7] {
-    count_row(57, hour(day, at), CARS, 3, 3)
-}
-
-fn counted(row: [Cell; 7], vehicles: u32) -> Counted<7> {
-    Counted { row, vehicles }
+fn back_on_57(day: Day, clock: u8) -> [Cell; 7] {
+    count_row(57, day.at(clock), CARS, 3, 3)
 }
 
 // Two surveys, and the descriptions and single counts that the planners name.
@@ -52,13 +46,13 @@ impl Sheets {
     pub fn new() -> Sheets {
         Sheets {
             wednesday: [
-                counted(on_21(WEDNESDAY, 7), 502),
-                counted(on_21(WEDNESDAY, 8), 547),
+                Counted::new(on_21(Day::Wednesday, 7), 502),
+                Counted::new(on_21(Day::Wednesday, 8), 547),
             ],
             u_turns: [
-                counted(count_row(34, hour(MONDAY, 7), HEAVY, 2, 2), 8),
-                counted(back_on_57(FRIDAY, 16), 14),
-                counted(back_on_57(FRIDAY, 17), 11),
+                Counted::new(count_row(34, Day::Monday.at(7), HEAVY, 2, 2), 8),
+                Counted::new(back_on_57(Day::Friday, 16), 14),
+                Counted::new(back_on_57(Day::Friday, 17), 11),
             ],
             at_21: counts_at(21),
             at_34: counts_at(34),
@@ -74,10 +68,14 @@ impl Sheets {
             mornings: [within_hours(0, WEEKDAYS, MORNING)],
             on_any_arm: [between(3, 1, 6)],
             from_junction_30: [between(0, 30, 99), between(3, 1, 6)],
-            tuesday: [on_21(TUESDAY, 7), on_21(TUESDAY, 8), on_21(TUESDAY, 9)],
-            back_at_seventeen: back_on_57(FRIDAY, 17),
-            back_on_34: count_row(34, hour(MONDAY, 7), HEAVY, 2, 2),
-            through_34: count_row(34, hour(MONDAY, 7), CARS, 2, 4),
+            tuesday: [
+                on_21(Day::Tuesday, 7),
+                on_21(Day::Tuesday, 8),
+                on_21(Day::Tuesday, 9),
+            ],
+            back_at_seventeen: back_on_57(Day::Friday, 17),
+            back_on_34: count_row(34, Day::Monday.at(7), HEAVY, 2, 2),
+            through_34: count_row(34, Day::Monday.at(7), CARS, 2, 4),
         }
     }
 }

@@ -1,9 +1,8 @@
 // Answers the sheet of requests on the standard input, over 64 empty places of a table.
 #![tactic(auto)]
 
-use anyhow::anyhow;
+use anyhow::{Context, anyhow};
 use kinds::bank::ALL_KINDS;
-use manager::memory::Memory;
 use sheets::answering::answer_sheet;
 use std::io::{Read, Write};
 use stores::entry::Record;
@@ -13,17 +12,7 @@ use telling::model::ARITIES;
 
 // The answers of a sheet.
 fn answers(rt: &HostRuntime, input: &[u8]) -> anyhow::Result<Vec<u8>> {
-    let Some(rolls) = Rolls::new() else {
-        return Err(anyhow!("the arities are not allowed"));
-    };
-    let mut transactions = rolls.transactions;
-    let mut reservations = rolls.reservations;
-    let mut changes = rolls.changes;
-    let mut memory = Memory {
-        transactions: &mut transactions,
-        reservations: &mut reservations,
-        changes: &mut changes,
-    };
+    let mut rolls = Rolls::new().context("the arities are not allowed")?;
     let mut records = [Record::Free; 64];
     let Ok(mut table) = Table::new(&mut records) else {
         return Err(anyhow!("a table of 64 places is refused"));
@@ -32,7 +21,7 @@ fn answers(rt: &HostRuntime, input: &[u8]) -> anyhow::Result<Vec<u8>> {
         rt.alloc(),
         ALL_KINDS,
         ARITIES,
-        &mut memory,
+        &mut rolls.memory(),
         &mut table,
         input,
     ) {

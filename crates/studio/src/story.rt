@@ -10,10 +10,7 @@ fn turn(from: u32, to: u32) -> [Cell; 3] {
 }
 
 fn counted(from: u32, to: u32, vehicles: u32) -> Counted<3> {
-    Counted {
-        row: turn(from, to),
-        vehicles,
-    }
+    Counted::new(turn(from, to), vehicles)
 }
 
 // Two surveys, and the descriptions and single turns that the planners name.

@@ -1,28 +1,15 @@
 // Conditions in a planner's words: weekdays 7:00 to 9:00, classes 0-2, arms 1-4.
+use crate::day::Day;
 use crate::mask::{Run, next_run};
+use crate::model::{ALL_DAY, EVERY_DAY, WEEKDAYS, WEEKENDS};
 use crate::place::Place;
 use kinds::condition::Condition;
+use std::cmp::Ordering;
 use std::fmt;
-
-const DAYS: [&str; 7] = [
-    "Monday",
-    "Tuesday",
-    "Wednesday",
-    "Thursday",
-    "Friday",
-    "Saturday",
-    "Sunday",
-];
-
-const ALL_HOURS: u32 = 16_777_215;
 
 // A day of the week, Monday being 0.
 pub fn day_name(day: u32) -> &'static str {
-    if day < 7 {
-        DAYS[day as usize]
-    } else {
-        "no day"
-    }
+    Day::numbered(day).map_or("no day", Day::name)
 }
 
 // What the bits of a mask are.
@@ -44,29 +31,13 @@ impl Unit {
 }
 
 fn tell_run<W: fmt::Write>(f: &mut fmt::Formatter<W>, unit: Unit, run: Run) -> fmt::Result {
-    let first = run.first;
-    let last = run.last;
+    let Run { first, last } = run;
     match unit {
-        Unit::Hour => {
-            let end = last.saturating_add(1);
-            write!(f, "{first}:00 to {end}:00")
-        }
-        Unit::Day => {
-            let from = day_name(first);
-            let to = day_name(last);
-            if first == last {
-                write!(f, "{from}")
-            } else {
-                write!(f, "{from} to {to}")
-            }
-        }
-        Unit::Class => {
-            if first == last {
-                write!(f, "{first}")
-            } else {
-                write!(f, "{first}-{last}")
-            }
-        }
+        Unit::Hour => write!(f, "{first}:00 to {}:00", last.saturating_add(1)),
+        Unit::Day if first == last => write!(f, "{}", day_name(first)),
+        Unit::Day => write!(f, "{} to {}", day_name(first), day_name(last)),
+        Unit::Class if first == last => write!(f, "{first}"),
+        Unit::Class => write!(f, "{first}-{last}"),
     }
 }
 
@@ -74,11 +45,8 @@ fn tell_run<W: fmt::Write>(f: &mut fmt::Formatter<W>, unit: Unit, run: Run) -> f
 fn tell_runs<W: fmt::Write>(f: &mut fmt::Formatter<W>, unit: Unit, mask: u32) -> fmt::Result {
     let top = unit.top();
     let mut at = 0;
-    for _ in 0..top {
-        let Some(run) = next_run(mask, at, top) else {
-            return Ok(());
-        };
-        let next = run.last.saturating_add(1);
+    while let Some(run) = next_run(mask, at, top) {
+        let next = run.last + 1;
         let joint = if at == 0 {
             ""
         } else if next_run(mask, next, top).is_none() {
@@ -95,9 +63,9 @@ fn tell_runs<W: fmt::Write>(f: &mut fmt::Formatter<W>, unit: Unit, mask: u32) ->
 
 fn tell_days<W: fmt::Write>(f: &mut fmt::Formatter<W>, days: u32) -> fmt::Result {
     match days {
-        127 => write!(f, "every day"),
-        31 => write!(f, "weekdays"),
-        96 => write!(f, "weekends"),
+        EVERY_DAY => write!(f, "every day"),
+        WEEKDAYS => write!(f, "weekdays"),
+        WEEKENDS => write!(f, "weekends"),
         _ => tell_runs(f, Unit::Day, days),
     }
 }
@@ -107,7 +75,7 @@ fn tell_hours<W: fmt::Write>(f: &mut fmt::Formatter<W>, days: u32, hours: u32) -
         return write!(f, "no hour");
     }
     tell_days(f, days)?;
-    if hours == ALL_HOURS {
+    if hours == ALL_DAY {
         return write!(f, " all day");
     }
     write!(f, " ")?;
@@ -129,12 +97,10 @@ fn tell_numbers<W: fmt::Write>(
     low: u32,
     high: u32,
 ) -> fmt::Result {
-    if low > high {
-        write!(f, "no {noun}")
-    } else if low == high {
-        write!(f, "{noun} {low}")
-    } else {
-        write!(f, "{noun}s {low}-{high}")
+    match low.cmp(&high) {
+        Ordering::Greater => write!(f, "no {noun}"),
+        Ordering::Equal => write!(f, "{noun} {low}"),
+        Ordering::Less => write!(f, "{noun}s {low}-{high}"),
     }
 }
 
@@ -148,17 +114,13 @@ pub struct Allowed {
 impl fmt::Display for Allowed {
     fn fmt<W: fmt::Write>(&self, f: &mut fmt::Formatter<W>) -> fmt::Result {
         let noun = self.place.numbered();
-        let a = self.condition.a;
-        let b = self.condition.b;
-        match self.condition.form {
-            b'W' if a <= 127 && b <= ALL_HOURS => tell_hours(f, a, b),
-            b'M' if a <= ALL_HOURS && b == 0 => tell_classes(f, a),
+        let Condition { form, a, b } = self.condition;
+        match form {
+            b'W' if a <= EVERY_DAY && b <= ALL_DAY => tell_hours(f, a, b),
+            b'M' if a <= ALL_DAY && b == 0 => tell_classes(f, a),
             b'B' => tell_numbers(f, noun, a, b),
             b'X' if b == 0 => write!(f, "any {noun} but {a}"),
-            form => {
-                let form = char::from(form);
-                write!(f, "an unknown condition {form} {a} {b}")
-            }
+            _ => write!(f, "an unknown condition {} {a} {b}", char::from(form)),
         }
     }
 }

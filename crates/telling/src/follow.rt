@@ -1,84 +1,76 @@
 // A script run over a store and told, and what a store holds.
+ghost use Rattle.std.specs.Prelude.{◌≡◌, IfOk, length, vec_len};
+
 use crate::memory::Rolls;
 use crate::model::ARITIES;
 use crate::plural::Many;
 use crate::script::{Remark, Script};
 use crate::sentence::{Asked, Shown, Told};
 use crate::term::RowWords;
-use anyhow::anyhow;
+use anyhow::Context;
 use compare::sample::Sample;
 use kinds::kind::Kind;
 use manager::fault::ManagerFault;
-use manager::memory::Memory;
 use runs::call::{Answer, Call};
 use runs::run::run;
 use std::io;
+use stores::entry::{Record, Size};
 use stores::store::Store;
+use stores::table::Table;
 use terms::cell::BLANK;
 
-// The answers of a run, one to a call, and the samples of its conflicts.
+// What stands in a row buffer before its call.
+pub const NO_SAMPLE: Sample = Sample {
+    cells: [BLANK; 12],
+    more: false,
+};
+
+// The answers of a run and its row buffers, which have the samples of its conflicts.
 #[derive(Drop)]
-struct Answered {
-    answers: Vec<Answer>,
-    samples: Vec<Sample>,
+pub struct Answered {
+    pub answers: Vec<Answer>,
+    pub samples: Vec<Sample>,
 }
 
-// Answers the calls over a new manager and the store.
-fn answer<K: Kind + Drop, S: Store>(
+// Answers the calls over a new manager and the store: an answer and a row buffer to each.
+pub fn answer<K: Kind + Drop, S: Store>(
     rt: &HostRuntime,
     kind: K,
     store: &mut S,
     calls: &[Call],
-) -> anyhow::Result<Answered> {
-    let Some(rolls) = Rolls::new() else {
-        return Err(anyhow!("the model base's arities are not allowed"));
-    };
-    let mut transactions = rolls.transactions;
-    let mut reservations = rolls.reservations;
-    let mut changes = rolls.changes;
-    let mut memory = Memory {
-        transactions: &mut transactions,
-        reservations: &mut reservations,
-        changes: &mut changes,
-    };
-    let blank = Sample {
-        cells: [BLANK; 12],
-        more: false,
-    };
+) -> anyhow::Result<Answered>
+    ensures { IfOk result (λ a. (vec_len a.answers ≡ length calls.now) × (vec_len a.samples ≡ length calls.now)) }
+{
+    let mut rolls = Rolls::new().context("the model base's arities are not allowed")?;
     let mut answers = vec![in rt.alloc(); Answer::Done; calls.len()]?;
-    let mut samples = vec![in rt.alloc(); blank; calls.len()]?;
+    let mut samples = vec![in rt.alloc(); NO_SAMPLE; calls.len()]?;
     let mut sheet = [BLANK; 16];
-    match run(
+    run(
         kind,
         ARITIES,
-        &mut memory,
+        &mut rolls.memory(),
         store,
         &mut sheet,
         calls,
         answers.as_mut_slice(),
         samples.as_mut_slice(),
-    ) {
-        Ok(_) => Ok(Answered { answers, samples }),
-        Err(_) => Err(anyhow!("the memory is not of the rolls' sizes")),
-    }
+    )
+    .ok()
+    .context("the memory is not of the rolls' sizes")?;
+    Ok(Answered { answers, samples })
 }
 
 // The remarks before call i.
 fn remark(rt: &HostRuntime, remarks: &[Remark], i: usize) -> io::Result<()> {
-    for remark in remarks {
-        if remark.before == i {
-            let text = remark.text;
-            println!(rt; "\n{text}")?;
-        }
+    for remark in remarks.iter().filter(|remark| remark.before == i) {
+        println!(rt; "\n{}", remark.text)?;
     }
     Ok(())
 }
 
 // A call with its answer; of a conflict, the holder and the row that shows it.
 pub fn tell(rt: &HostRuntime, call: Call, answer: Answer, sample: Sample) -> io::Result<()> {
-    let asked = Asked(call);
-    let told = Told { call, answer };
-    println!(rt; "  {asked}: {told}.")?;
+    println!(rt; "  {}: {}.", Asked(call), Told { call, answer })?;
     if let Answer::Refused(
         ManagerFault::Conflict {
             transaction,
@@ -86,9 +78,9 @@ pub fn tell(rt: &HostRuntime, call: Call, answer: Answer, sample: Sample) -> io:
         },
     ) = answer
     {
-        let shown = Shown(sample);
         println!(rt;
-            "    Transaction {transaction} holds it by reservation {reservation}; both take in {shown}."
+            "    Transaction {transaction} holds it by reservation {reservation}; both take in {}.",
+            Shown(sample)
         )?;
     }
     Ok(())
@@ -103,10 +95,9 @@ pub fn follow<K: Kind + Drop, S: Store>(
 ) -> anyhow::Result<()> {
     let calls = script.calls.as_slice();
     let remarks = script.remarks.as_slice();
-    let answered = answer(rt, kind, store, calls)?;
-    let answers = answered.answers.iter();
-    let samples = answered.samples.iter();
-    for (i, (call, (answer, sample))) in calls.iter().zip(answers.zip(samples)).enumerate() {
+    let Answered { answers, samples } = answer(rt, kind, store, calls)?;
+    let answered = answers.iter().zip(samples.iter());
+    for (i, (call, (answer, sample))) in calls.iter().zip(answered).enumerate() {
         remark(rt, remarks, i)?;
         tell(rt, *call, *answer, *sample)?;
     }
@@ -116,20 +107,32 @@ pub fn follow<K: Kind + Drop, S: Store>(
 
 // The rows of a store with their counts.
 pub fn holdings<S: Store>(rt: &HostRuntime, store: &S) -> io::Result<()> {
-    let size = store.size();
-    let places = size.places;
-    let rows = Many {
-        count: size.rows as u64,
-        noun: "row",
-    };
-    let free = size.places.saturating_sub(size.rows);
-    println!(rt; "The model base holds {rows} in {places} places; {free} are free:")?;
-    for k in 0..size.rows {
-        if let Some(entry) = store.row(k) {
-            let count = entry.count.value;
-            let row = RowWords(entry.key.cells());
-            println!(rt; "  {count:>6} for {row}")?;
-        }
+    let Size { places, rows } = store.size();
+    let held = Many::of(rows as u64, "row");
+    let free = places.saturating_sub(rows);
+    println!(rt; "The model base holds {held} in {places} places; {free} are free:")?;
+    for entry in (0..rows).filter_map(|k| store.row(k)) {
+        let row = RowWords(entry.key.cells());
+        println!(rt; "  {:>6} for {row}", entry.count.value)?;
     }
+    Ok(())
+}
+
+// Tells a script over an empty table in these records, and what the table then holds.
+pub fn perform<K: Kind + Drop>(
+    rt: &HostRuntime,
+    kind: K,
+    records: &mut [Record],
+    title: &str,
+    script: &Script,
+) -> anyhow::Result<()> {
+    let places = records.len();
+    let mut table = Table::new(records)
+        .ok()
+        .context(format_args!("a table of {places} places is refused"))?;
+    println!(rt; "{title}")?;
+    follow(rt, kind, &mut table, script)?;
+    println!(rt; "")?;
+    holdings(rt, &table)?;
     Ok(())
 }

@@ -2,6 +2,7 @@
 #![tactic(auto)]
 
 pub mod condition;
+pub mod day;
 pub mod follow;
 pub mod mask;
 pub mod memory;

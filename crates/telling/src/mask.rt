@@ -16,12 +16,7 @@ pub struct Run {
 fn first_set(mask: u32, at: u32, top: u32) -> Option<u32>
     ensures { MatchOption result (Clear mask at top) (λ k. (at ≤ k) × (k < top) × Bit mask k × Clear mask at k) }
 {
-    for k in at..top {
-        if bit(mask, k) {
-            return Some(k);
-        }
-    }
-    None
+    (at..top).find(|k| bit(mask, *k))
 }
 
 // Where the set bits from `at` on end: the first clear bit, or `top`.
@@ -29,12 +24,7 @@ fn first_clear(mask: u32, at: u32, top: u32) -> u32
     requires { at ≤ top }
     ensures { (at ≤ result) × (result ≤ top) × Filled mask at result × (result < top → Bit mask result → ⊥) }
 {
-    for k in at..top {
-        if !bit(mask, k) {
-            return k;
-        }
-    }
-    top
+    (at..top).find(|k| !bit(mask, *k)).unwrap_or(top)
 }
 
 // The next run from `at` on, below `top`, as long as it can be; none exactly if no bit is set there.

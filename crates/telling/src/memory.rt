@@ -1,18 +1,21 @@
 // Arrays of the rolls' sizes.
+ghost use Rattle.manager.specs.Book.{Sizes};
+
 use crate::model::ARITIES;
 use kinds::number::Number;
 use ledger::entry::{PendingChange, Reservation, Right, Transaction};
+use manager::memory::Memory;
 use stores::key::Key;
 use terms::cell::Cell;
 use terms::pattern::Pattern;
 use terms::signature::Signature;
 
-// Taken apart and lent as a `Memory`.
+// What a manager is lent as its memory.
 #[derive(Clone, Copy)]
 pub struct Rolls {
-    pub transactions: [Transaction; 16],
-    pub reservations: [Reservation; 64],
-    pub changes: [PendingChange; 128],
+    transactions: [Transaction; 16],
+    reservations: [Reservation; 64],
+    changes: [PendingChange; 128],
 }
 
 impl Rolls {
@@ -22,12 +25,8 @@ impl Rolls {
             letter: b'S',
             number: 0,
         }];
-        let Ok(signature) = Signature::new(ARITIES) else {
-            return None;
-        };
-        let Ok(pattern) = Pattern::read(&signature, &Number, &nought, &[]) else {
-            return None;
-        };
+        let signature = Signature::new(ARITIES).ok()?;
+        let pattern = Pattern::read(&signature, &Number, &nought, &[]).ok()?;
         let row = Key::new(&nought)?;
         let transaction = Transaction {
             number: 0,
@@ -49,5 +48,21 @@ impl Rolls {
             reservations: [reservation; 64],
             changes: [change; 128],
         })
+    }
+
+    // Lent as the memory of a manager.
+    pub fn memory(&mut self) -> Memory<'_>
+        ensures { Sizes result }
+    {
+        let Rolls {
+            transactions,
+            reservations,
+            changes,
+        } = self;
+        Memory {
+            transactions,
+            reservations,
+            changes,
+        }
     }
 }

@@ -25,19 +25,15 @@ pub const OPPOSITE: Cell = Cell {
     number: 3,
 };
 
-pub const MONDAY: u8 = 0;
+// Days as a mask, Monday being its lowest bit.
+pub const EVERY_DAY: u32 = 127;
 
-pub const TUESDAY: u8 = 1;
+pub const WEEKDAYS: u32 = 31;
 
-pub const WEDNESDAY: u8 = 2;
+pub const WEEKENDS: u32 = 96;
 
-pub const THURSDAY: u8 = 3;
-
-pub const FRIDAY: u8 = 4;
-
-pub const SATURDAY: u8 = 5;
-
-pub const SUNDAY: u8 = 6;
+// All hours of a day, as a mask.
+pub const ALL_DAY: u32 = 16_777_215;
 
 // A junction, an arm or any other whole number.
 pub fn number(number: u32) -> Cell {
@@ -47,7 +43,7 @@ pub fn number(number: u32) -> Cell {
     }
 }
 
-// An hour of the week.
+// An hour of the week, Monday being day 0 (of a named day, `Day::at`).
 pub fn hour(day: u8, hour: u8) -> Cell
     ensures { result.number ≡ 24 * day + hour }
 {

@@ -1,5 +1,5 @@
 // Where a cell of a term stands, which says what a number there counts: a junction, an arm.
-ghost use Rattle.std.specs.Prelude.{◌≤◌};
+use lists::up_to::UpTo;
 
 #[derive(Clone, Copy)]
 pub enum Place {
@@ -52,54 +52,41 @@ impl Place {
     }
 }
 
+// The places of a symbol's arguments in the model base, from the left.
+fn arguments(symbol: u32) -> &'static [Place] {
+    match symbol {
+        1 => &[Place::Junction, Place::Hour, Place::Class, Place::Turn],
+        2 => &[Place::From, Place::To],
+        3 => &[Place::Arm],
+        _ => &[],
+    }
+}
+
 // The places still to come in a term that is read from the left, the next one last.
 #[derive(Clone, Copy)]
 pub struct Awaited {
-    places: [Place; 32],
-    count: usize,
-    ghost few: { count ≤ 32 },
+    places: UpTo<Place, 32>,
 }
 
 impl Awaited {
     // A row.
     pub fn row() -> Awaited {
-        Awaited {
-            places: [Place::Row; 32],
-            count: 1,
-        }
-    }
-
-    fn push(&mut self, place: Place) {
-        if self.count < 32 {
-            self.places[self.count] = place;
-            self.count += 1;
-        }
+        let mut places = UpTo::new(Place::Value);
+        places.push(Place::Row);
+        Awaited { places }
     }
 
     // The next place; past the end of the term, anywhere.
     pub fn next(&mut self) -> Place {
-        if self.count == 0 {
-            return Place::Value;
-        }
-        self.count -= 1;
-        self.places[self.count]
+        self.places.pop().unwrap_or(Place::Value)
     }
 
-    // The arguments of a symbol of the model base come next.
+    // The arguments of a symbol of the model base come next; those past the 32nd place are not awaited.
     pub fn await_arguments(&mut self, symbol: u32) {
-        match symbol {
-            1 => {
-                self.push(Place::Turn);
-                self.push(Place::Class);
-                self.push(Place::Hour);
-                self.push(Place::Junction);
+        for place in arguments(symbol).iter().rev() {
+            if self.places.len() < 32 {
+                self.places.push(*place);
             }
-            2 => {
-                self.push(Place::To);
-                self.push(Place::From);
-            }
-            3 => self.push(Place::Arm),
-            _ => {}
         }
     }
 }

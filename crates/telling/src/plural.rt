@@ -7,14 +7,17 @@ pub struct Many<'a> {
     pub noun: &'a str,
 }
 
+impl<'a> Many<'a> {
+    pub(crate) fn of(count: u64, noun: &'a str) -> Many<'a> {
+        Many { count, noun }
+    }
+}
+
 impl<'a> fmt::Display for Many<'a> {
     fn fmt<W: fmt::Write>(&self, f: &mut fmt::Formatter<W>) -> fmt::Result {
-        let count = self.count;
-        let noun = self.noun;
-        if count == 1 {
-            write!(f, "1 {noun}")
-        } else {
-            write!(f, "{count} {noun}s")
+        match *self {
+            Many { count: 1, noun } => write!(f, "1 {noun}"),
+            Many { count, noun } => write!(f, "{count} {noun}s"),
         }
     }
 }

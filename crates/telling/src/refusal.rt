@@ -48,11 +48,9 @@ pub struct RefusalWords(pub Refusal);
 impl fmt::Display for RefusalWords {
     fn fmt<W: fmt::Write>(&self, f: &mut fmt::Formatter<W>) -> fmt::Result {
         let number = self.0.number;
-        let reason = reason(number);
-        write!(f, "refused with {number}: {reason}")?;
+        write!(f, "refused with {number}: {}", reason(number))?;
         if let Some(place) = self.0.place {
-            let counted = counted(number);
-            write!(f, ", at {counted} {place} (counted from 0)")?;
+            write!(f, ", at {} {place} (counted from 0)", counted(number))?;
         }
         if let Some(field) = self.0.field {
             write!(f, ", field {field} (counted from 1)")?;

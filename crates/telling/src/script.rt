@@ -21,6 +21,15 @@ pub struct Counted<const N: usize> {
     ghost long: { length row ≡ N },
 }
 
+impl<const N: usize> Counted<N> {
+    pub fn new(row: [Cell; N], vehicles: u32) -> Counted<N>
+        ensures row { result.row ≡ row.entry }
+        ensures vehicles { result.vehicles ≡ vehicles }
+    {
+        Counted { row, vehicles }
+    }
+}
+
 #[derive(Drop)]
 pub struct Script<'a> {
     pub calls: Vec<Call<'a>>,

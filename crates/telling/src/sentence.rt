@@ -6,9 +6,7 @@ use compare::sample::Sample;
 use refusals::Fault;
 use runs::call::{Answer, Call};
 use std::fmt;
-use stores::count::Count;
 use terms::cell::Cell;
-use terms::constraint::Constraint;
 
 // What a right is for.
 fn purpose(right: u8) -> &'static str {
@@ -17,18 +15,6 @@ fn purpose(right: u8) -> &'static str {
         b'W' => "for writing",
         _ => "for something unknown",
     }
-}
-
-fn ask_reserve<'a, W: fmt::Write>(
-    f: &mut fmt::Formatter<W>,
-    transaction: u32,
-    right: u8,
-    cells: &'a [Cell],
-    constraints: &'a [Constraint],
-) -> fmt::Result {
-    let purpose = purpose(right);
-    let pattern = PatternWords { cells, constraints };
-    write!(f, "Transaction {transaction} reserves {purpose} {pattern}")
 }
 
 // What is asked.
@@ -44,10 +30,14 @@ impl<'a> fmt::Display for Asked<'a> {
                 right,
                 cells,
                 constraints,
-            } => ask_reserve(f, transaction, right, cells, constraints),
+            } => write!(
+                f,
+                "Transaction {transaction} reserves {} {}",
+                purpose(right),
+                PatternWords { cells, constraints }
+            ),
             Call::Look { transaction, cells } => {
-                let row = RowWords(cells);
-                write!(f, "Transaction {transaction} looks at {row}")
+                write!(f, "Transaction {transaction} looks at {}", RowWords(cells))
             }
             Call::Survey {
                 transaction,
@@ -60,13 +50,13 @@ impl<'a> fmt::Display for Asked<'a> {
                 transaction,
                 cells,
                 count,
-            } => {
-                let row = RowWords(cells);
-                write!(f, "Transaction {transaction} enters {count} for {row}")
-            }
+            } => write!(
+                f,
+                "Transaction {transaction} enters {count} for {}",
+                RowWords(cells)
+            ),
             Call::Strike { transaction, cells } => {
-                let row = RowWords(cells);
-                write!(f, "Transaction {transaction} strikes {row}")
+                write!(f, "Transaction {transaction} strikes {}", RowWords(cells))
             }
             Call::Commit { transaction } => write!(f, "Transaction {transaction} commits"),
             Call::Abandon { transaction } => { write!(f, "Transaction {transaction} is abandoned") }
@@ -81,23 +71,11 @@ fn tell_number<W: fmt::Write>(f: &mut fmt::Formatter<W>, call: Call, number: u32
         Call::Begin { .. } => write!(f, "transaction {number} is open"),
         Call::Reserve { .. } => write!(f, "granted, reservation {number}"),
         Call::Commit { .. } => write!(f, "done, commit {number}"),
-        _ => {
-            let changes = Many {
-                count: u64::from(number),
-                noun: "pending change",
-            };
-            write!(f, "{changes} given up")
-        }
-    }
-}
-
-fn tell_found<W: fmt::Write>(f: &mut fmt::Formatter<W>, found: Option<Count>) -> fmt::Result {
-    match found {
-        Some(count) => {
-            let value = count.value;
-            write!(f, "the count is {value}")
-        }
-        None => write!(f, "there is no such row"),
+        _ => write!(
+            f,
+            "{} given up",
+            Many::of(u64::from(number), "pending change")
+        ),
     }
 }
 
@@ -111,59 +89,58 @@ pub struct Told<'a> {
 impl<'a> fmt::Display for Told<'a> {
     fn fmt<W: fmt::Write>(&self, f: &mut fmt::Formatter<W>) -> fmt::Result {
         match self.answer {
-            Answer::Refused(fault) => {
-                let refusal = RefusalWords(fault.refusal());
-                write!(f, "{refusal}")
-            }
+            Answer::Refused(fault) => write!(f, "{}", RefusalWords(fault.refusal())),
             Answer::Number(number) => tell_number(f, self.call, number),
-            Answer::Found(found) => tell_found(f, found),
-            Answer::Figures(rows, total) => {
-                let rows = Many {
-                    count: u64::from(rows),
-                    noun: "row",
-                };
-                let vehicles = Many {
-                    count: total,
-                    noun: "vehicle",
-                };
-                write!(f, "{rows}, {vehicles} in all")
-            }
+            Answer::Found(Some(count)) => write!(f, "the count is {}", count.value),
+            Answer::Found(None) => write!(f, "there is no such row"),
+            Answer::Figures(rows, total) => write!(
+                f,
+                "{}, {} in all",
+                Many::of(u64::from(rows), "row"),
+                Many::of(total, "vehicle")
+            ),
             Answer::Done => write!(f, "noted"),
-            Answer::Tally(tally) => {
-                let reserves = Many {
-                    count: u64::from(tally),
-                    noun: "reserve",
-                };
-                write!(f, "{reserves} refused for conflict so far")
-            }
+            Answer::Tally(tally) => write!(
+                f,
+                "{} refused for conflict so far",
+                Many::of(u64::from(tally), "reserve")
+            ),
         }
     }
 }
 
 // The cells of a sample before its blanks.
-fn filled(cells: &[Cell]) -> &[Cell] {
-    for (i, cell) in cells.iter().enumerate() {
-        if cell.letter == b' ' {
-            return &cells[0..i];
-        }
+fn filled(sample: &Sample) -> &[Cell] {
+    let cells = &sample.cells[..];
+    match cells.iter().position(|cell| cell.letter == b' ') {
+        Some(end) => &cells[..end],
+        None => cells,
     }
-    cells
+}
+
+// What a sample ends in where more cells follow.
+fn ending(sample: &Sample) -> &'static str {
+    if sample.more { " .." } else { "" }
+}
+
+// A sample as it is written on a line, a blank before each cell.
+#[derive(Clone, Copy)]
+pub struct WrittenSample(pub Sample);
+
+impl fmt::Display for WrittenSample {
+    fn fmt<W: fmt::Write>(&self, f: &mut fmt::Formatter<W>) -> fmt::Result {
+        write!(f, "{}{}", Written(filled(&self.0)), ending(&self.0))
+    }
 }
 
 // The row that shows a conflict.
 #[derive(Clone, Copy)]
 pub struct Shown(pub Sample);
 
-fn tell_sample<W: fmt::Write>(f: &mut fmt::Formatter<W>, sample: Sample) -> fmt::Result {
-    let cells = filled(&sample.cells);
-    let row = RowWords(cells);
-    let written = Written(cells);
-    let more = if sample.more { " .." } else { "" };
-    write!(f, "{row}{more} (written{written}{more})")
-}
-
 impl fmt::Display for Shown {
     fn fmt<W: fmt::Write>(&self, f: &mut fmt::Formatter<W>) -> fmt::Result {
-        tell_sample(f, self.0)
+        let row = RowWords(filled(&self.0));
+        let written = WrittenSample(self.0);
+        write!(f, "{row}{} (written{written})", ending(&self.0))
     }
 }

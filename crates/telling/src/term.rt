@@ -1,5 +1,6 @@
 // Rows and patterns of the model base in a planner's words.
-use crate::condition::{Allowed, day_name};
+use crate::condition::Allowed;
+use crate::model::variable;
 use crate::moment::moment_of;
 use crate::place::{Awaited, Place};
 use std::fmt;
@@ -8,11 +9,7 @@ use terms::constraint::Constraint;
 
 fn tell_hour<W: fmt::Write>(f: &mut fmt::Formatter<W>, code: u32) -> fmt::Result {
     match moment_of(code) {
-        Some(moment) => {
-            let day = day_name(moment.day);
-            let hour = moment.hour;
-            write!(f, "{day} {hour}:00")
-        }
+        Some(moment) => write!(f, "{} {}:00", moment.day, moment.hour),
         None => write!(f, "hour {code}"),
     }
 }
@@ -36,21 +33,19 @@ fn tell_variable<W: fmt::Write>(
     place: Place,
     constraints: &[Constraint],
 ) -> fmt::Result {
-    let mut free = true;
-    for constraint in constraints {
-        if constraint.variable == variable {
-            let joint = if free { "" } else { " and also " };
-            let allowed = Allowed {
-                condition: constraint.condition,
-                place,
-            };
-            write!(f, "{joint}{allowed}")?;
-            free = false;
-        }
-    }
-    if free {
-        let noun = place.noun();
-        write!(f, "any {noun}")?;
+    let mut all = constraints
+        .iter()
+        .filter(|constraint| constraint.variable == variable)
+        .map(|constraint| Allowed {
+            condition: constraint.condition,
+            place,
+        });
+    let Some(first) = all.next() else {
+        return write!(f, "any {}", place.noun());
+    };
+    write!(f, "{first}")?;
+    for other in all {
+        write!(f, " and also {other}")?;
     }
     Ok(())
 }
@@ -67,14 +62,8 @@ fn tell_cell<W: fmt::Write>(
         b'V' => tell_variable(f, number, place, constraints),
         b'H' => tell_hour(f, number),
         b'C' => write!(f, "class {number}"),
-        b'N' => {
-            let noun = place.numbered();
-            write!(f, "{noun} {number}")
-        }
-        letter => {
-            let letter = char::from(letter);
-            write!(f, "{letter}{number}")
-        }
+        b'N' => write!(f, "{} {number}", place.numbered()),
+        letter => write!(f, "{}{number}", char::from(letter)),
     }
 }
 
@@ -87,11 +76,9 @@ fn tell_cells<W: fmt::Write>(
     let mut awaited = Awaited::row();
     for (i, cell) in cells.iter().enumerate() {
         let place = awaited.next();
-        let lead = place.lead();
-        write!(f, "{lead}")?;
-        if cell.letter == b'V' && cells[0..i].contains(cell) {
-            let noun = place.noun();
-            write!(f, "the same {noun}")?;
+        write!(f, "{}", place.lead())?;
+        if cell.letter == b'V' && cells[..i].contains(cell) {
+            write!(f, "the same {}", place.noun())?;
         } else {
             tell_cell(f, *cell, place, constraints)?;
         }
@@ -108,18 +95,15 @@ fn tell_others<W: fmt::Write>(
     cells: &[Cell],
     constraints: &[Constraint],
 ) -> fmt::Result {
-    for constraint in constraints {
-        let variable = Cell {
-            letter: b'V',
-            number: constraint.variable,
+    let others = constraints.iter().filter(|constraint| !cells.contains(&variable(
+        constraint.variable,
+    )));
+    for constraint in others {
+        let allowed = Allowed {
+            condition: constraint.condition,
+            place: Place::Value,
         };
-        if !cells.contains(&variable) {
-            let allowed = Allowed {
-                condition: constraint.condition,
-                place: Place::Value,
-            };
-            write!(f, ", provided that there is {allowed}")?;
-        }
+        write!(f, ", provided that there is {allowed}")?;
     }
     Ok(())
 }
@@ -157,9 +141,7 @@ pub struct Written<'a>(pub &'a [Cell]);
 impl<'a> fmt::Display for Written<'a> {
     fn fmt<W: fmt::Write>(&self, f: &mut fmt::Formatter<W>) -> fmt::Result {
         for cell in self.0 {
-            let letter = char::from(cell.letter);
-            let number = cell.number;
-            write!(f, " {letter}{number}")?;
+            write!(f, " {}{}", char::from(cell.letter), cell.number)?;
         }
         Ok(())
     }

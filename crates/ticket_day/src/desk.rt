@@ -1,8 +1,9 @@
-// Each call with its answer told. The manager and its memory stay as every call requires them.
+// The desk at which tickets are held: each call with its answer told.
 ghost use Rattle.manager.specs.Book.{Sizes, Well};
+ghost use Rattle.ticket_day.specs.Kept.{Well-prop};
 
 use crate::log::Log;
-use compare::sample::Sample;
+use kinds::bank::AllKinds;
 use kinds::kind::Kind;
 use manager::fault::ManagerFault;
 use manager::host::{Abandoning, abandon_ticket, begin_ticket, commit_ticket};
@@ -10,199 +11,183 @@ use manager::memory::Memory;
 use manager::state::Manager;
 use manager::ticket::Ticket;
 use runs::call::{Answer, Call};
-use stores::store::Store;
+use std::io;
+use stores::table::Table;
+use telling::follow::NO_SAMPLE;
 use terms::cell::{BLANK, Cell};
 use terms::constraint::Constraint;
 
-const NO_SAMPLE: Sample = Sample {
-    cells: [BLANK; 12],
-    more: false,
-};
-
-fn surveying<'a>(transaction: u32, reservation: u32) -> Call<'a> {
-    Call::Survey {
-        transaction,
-        reservation,
-    }
+// A manager with its rolls' memory, its store and what is told of it. Between calls all is as every call requires it.
+#[derive(Drop)]
+pub struct Desk<'a> {
+    manager: Manager<AllKinds>,
+    memory: Memory<'a>,
+    store: Table<'a>,
+    sheet: [Cell; 16],
+    log: Log<'a>,
+    ghost sizes: { Sizes memory },
+    ghost well: { Well ⟦<AllKinds as Kind>⟧.means manager memory } by { Well-prop ⟦<AllKinds as Kind>⟧.means manager memory },
 }
 
-fn committing<'a>(transaction: u32) -> Call<'a> {
-    Call::Commit { transaction }
-}
-
-fn abandoning<'a>(transaction: u32) -> Call<'a> {
-    Call::Abandon { transaction }
-}
-
-fn beginning<'a>(planner: u32) -> Call<'a> {
-    Call::Begin { planner }
-}
-
-// A ticket for a transaction of the planner's.
-pub fn begin<K: Kind>(
-    manager: &mut Manager<K>,
-    memory: &mut Memory,
-    log: &mut Log,
-    planner: u32,
-) -> Option<Ticket>
-    requires { Well K.Kind.means manager.old memory.old }
-    ensures well { Well K.Kind.means manager.new memory.new }
-    ensures sizes { Sizes memory.old → Sizes memory.new }
-{
-    let call = beginning(planner);
-    match begin_ticket(manager, memory, planner) {
-        Ok(ticket) => {
-            log.tell(call, Answer::Number(ticket.number()), NO_SAMPLE);
-            Some(ticket)
-        }
-        Err(fault) => {
-            log.tell(call, Answer::Refused(fault), NO_SAMPLE);
-            None
+impl<'a> Desk<'a> {
+    pub fn new(
+        manager: Manager<AllKinds>,
+        memory: Memory<'a>,
+        store: Table<'a>,
+        log: Log<'a>,
+    ) -> Desk<'a>
+        requires sizes { Sizes memory }
+        requires well { Well ⟦<AllKinds as Kind>⟧.means manager memory }
+    {
+        Desk {
+            manager,
+            memory,
+            store,
+            sheet: [BLANK; 16],
+            log,
         }
     }
-}
 
-pub fn reserve<'a, K: Kind>(
-    manager: &mut Manager<K>,
-    memory: &mut Memory,
-    sheet: &mut [Cell; 16],
-    log: &mut Log,
-    transaction: u32,
-    right: u8,
-    cells: &'a [Cell],
-    constraints: &'a [Constraint],
-)
-    requires { Well K.Kind.means manager.old memory.old }
-    ensures well { Well K.Kind.means manager.new memory.new }
-    ensures sizes { Sizes memory.old → Sizes memory.new }
-{
-    let mut sample = NO_SAMPLE;
-    let answer = match manager.reserve(
-        memory,
-        transaction,
-        right,
-        cells,
-        constraints,
-        sheet,
-        &mut sample,
+    pub fn remark(&mut self, text: &str) {
+        self.log.remark(text);
+    }
+
+    // A ticket for a transaction of the planner's.
+    pub fn begin(&mut self, planner: u32) -> Option<Ticket> {
+        let begun = begin_ticket(&mut self.manager, &mut self.memory, planner);
+        let answer = match &begun {
+            Ok(ticket) => Answer::Number(ticket.number()),
+            Err(fault) => Answer::Refused(*fault),
+        };
+        self.log.tell(Call::Begin { planner }, answer, NO_SAMPLE);
+        begun.ok()
+    }
+
+    pub fn reserve(
+        &mut self,
+        ticket: &Ticket,
+        right: u8,
+        cells: &[Cell],
+        constraints: &[Constraint],
     ) {
-        Ok(number) => Answer::Number(number),
-        Err(fault) => Answer::Refused(fault),
-    };
-    let call = Call::Reserve {
-        transaction,
-        right,
-        cells,
-        constraints,
-    };
-    log.tell(call, answer, sample);
-}
+        let transaction = ticket.number();
+        let mut sample = NO_SAMPLE;
+        let answer = self
+            .manager
+            .reserve(
+                &mut self.memory,
+                transaction,
+                right,
+                cells,
+                constraints,
+                &mut self.sheet,
+                &mut sample,
+            )
+            .map_or_else(Answer::Refused, Answer::Number);
+        let call = Call::Reserve {
+            transaction,
+            right,
+            cells,
+            constraints,
+        };
+        self.log.tell(call, answer, sample);
+    }
 
-pub fn look<K: Kind, S: Store>(
-    manager: &Manager<K>,
-    memory: &Memory,
-    store: &S,
-    sheet: &mut [Cell; 16],
-    log: &mut Log,
-    transaction: u32,
-    cells: &[Cell],
-)
-    requires { Well K.Kind.means manager.now memory.now }
-{
-    let answer = match manager.look(memory, store, transaction, cells, sheet) {
-        Ok(found) => Answer::Found(found),
-        Err(fault) => Answer::Refused(fault),
-    };
-    log.tell(Call::Look { transaction, cells }, answer, NO_SAMPLE);
-}
+    pub fn look(&mut self, ticket: &Ticket, cells: &[Cell]) {
+        let transaction = ticket.number();
+        let answer = self
+            .manager
+            .look(
+                &self.memory,
+                &self.store,
+                transaction,
+                cells,
+                &mut self.sheet,
+            )
+            .map_or_else(Answer::Refused, Answer::Found);
+        let call = Call::Look { transaction, cells };
+        self.log.tell(call, answer, NO_SAMPLE);
+    }
 
-pub fn survey<K: Kind, S: Store>(
-    manager: &Manager<K>,
-    memory: &Memory,
-    store: &S,
-    sheet: &mut [Cell; 16],
-    log: &mut Log,
-    transaction: u32,
-    reservation: u32,
-)
-    requires { Well K.Kind.means manager.now memory.now }
-{
-    let answer = match manager.survey(memory, store, transaction, reservation, sheet) {
-        Ok((rows, total)) => Answer::Figures(rows, total),
-        Err(fault) => Answer::Refused(fault),
-    };
-    log.tell(surveying(transaction, reservation), answer, NO_SAMPLE);
-}
+    pub fn survey(&mut self, ticket: &Ticket, reservation: u32) {
+        let transaction = ticket.number();
+        let answer = self
+            .manager
+            .survey(
+                &self.memory,
+                &self.store,
+                transaction,
+                reservation,
+                &mut self.sheet,
+            )
+            .map_or_else(Answer::Refused, |(rows, total)| Answer::Figures(rows, total));
+        let call = Call::Survey {
+            transaction,
+            reservation,
+        };
+        self.log.tell(call, answer, NO_SAMPLE);
+    }
 
-pub fn write<K: Kind>(
-    manager: &mut Manager<K>,
-    memory: &mut Memory,
-    sheet: &mut [Cell; 16],
-    log: &mut Log,
-    transaction: u32,
-    cells: &[Cell],
-    count: u32,
-)
-    requires { Well K.Kind.means manager.old memory.old }
-    ensures well { Well K.Kind.means manager.new memory.new }
-    ensures sizes { Sizes memory.old → Sizes memory.new }
-{
-    let answer = match manager.write(memory, transaction, cells, count, sheet) {
-        Ok(()) => Answer::Done,
-        Err(fault) => Answer::Refused(fault),
-    };
-    let call = Call::Write {
-        transaction,
-        cells,
-        count,
-    };
-    log.tell(call, answer, NO_SAMPLE);
-}
+    pub fn write(&mut self, ticket: &Ticket, cells: &[Cell], count: u32) {
+        let transaction = ticket.number();
+        let answer = self
+            .manager
+            .write(
+                &mut self.memory,
+                transaction,
+                cells,
+                count,
+                &mut self.sheet,
+            )
+            .map_or_else(Answer::Refused, |()| Answer::Done);
+        let call = Call::Write {
+            transaction,
+            cells,
+            count,
+        };
+        self.log.tell(call, answer, NO_SAMPLE);
+    }
 
-// The ticket is spent: with memory of the rolls' sizes an abandon never hands it back.
-pub fn abandon<K: Kind>(
-    manager: &mut Manager<K>,
-    memory: &mut Memory,
-    log: &mut Log,
-    ticket: Ticket,
-)
-    requires well { Well K.Kind.means manager.old memory.old }
-    requires sizes { Sizes memory.old }
-    ensures well { Well K.Kind.means manager.new memory.new }
-    ensures sizes { Sizes memory.new }
-{
-    let transaction = ticket.number();
-    let answer = match abandon_ticket(manager, memory, ticket) {
-        Abandoning::Changes(number) => Answer::Number(number),
-        Abandoning::NotOpen => Answer::Refused(ManagerFault::NotOpen),
-        Abandoning::Back(_) => unreachable(),
-    };
-    log.tell(abandoning(transaction), answer, NO_SAMPLE);
-}
+    // The ticket is spent: with memory of the rolls' sizes an abandon never hands it back.
+    pub fn abandon(&mut self, ticket: Ticket) {
+        let transaction = ticket.number();
+        let answer = match abandon_ticket(&mut self.manager, &mut self.memory, ticket) {
+            Abandoning::Changes(number) => Answer::Number(number),
+            Abandoning::NotOpen => Answer::Refused(ManagerFault::NotOpen),
+            Abandoning::Back(_) => unreachable(),
+        };
+        self.log
+            .tell(Call::Abandon { transaction }, answer, NO_SAMPLE);
+    }
 
-// The changes enter the store; a refused commit hands the ticket back.
-pub fn commit<K: Kind, S: Store>(
-    manager: &mut Manager<K>,
-    memory: &mut Memory,
-    store: &mut S,
-    log: &mut Log,
-    ticket: Ticket,
-) -> Option<Ticket>
-    requires well { Well K.Kind.means manager.old memory.old }
-    requires sizes { Sizes memory.old }
-    ensures well { Well K.Kind.means manager.new memory.new }
-    ensures sizes { Sizes memory.new }
-{
-    let transaction = ticket.number();
-    let call = committing(transaction);
-    match commit_ticket(manager, memory, store, ticket) {
-        Ok(number) => {
-            log.tell(call, Answer::Number(number), NO_SAMPLE);
-            None
-        }
-        Err((ticket, fault)) => {
-            log.tell(call, Answer::Refused(fault), NO_SAMPLE);
-            Some(ticket)
-        }
+    // The changes enter the store; a refused commit hands the ticket back.
+    pub fn commit(&mut self, ticket: Ticket) -> Option<Ticket> {
+        let transaction = ticket.number();
+        let committed = commit_ticket(
+            &mut self.manager,
+            &mut self.memory,
+            &mut self.store,
+            ticket,
+        );
+        let answer = match &committed {
+            Ok(number) => Answer::Number(*number),
+            Err((_, fault)) => Answer::Refused(*fault),
+        };
+        self.log
+            .tell(Call::Commit { transaction }, answer, NO_SAMPLE);
+        committed.err().map(|(ticket, _)| ticket)
+    }
+
+    // The store, unless a line could not be printed.
+    pub fn end(self) -> io::Result<Table<'a>> {
+        let Desk {
+            manager: _,
+            memory: _,
+            store,
+            sheet: _,
+            log,
+        } = self;
+        log.end()?;
+        Ok(store)
     }
 }

@@ -7,42 +7,31 @@ mod day;
 mod desk;
 mod log;
 
-use anyhow::anyhow;
+use anyhow::Context;
 use day::day;
+use desk::Desk;
 use kinds::bank::ALL_KINDS;
 use log::Log;
-use manager::memory::Memory;
 use manager::state::Manager;
 use stores::entry::Record;
 use stores::table::Table;
 use telling::follow::holdings;
 use telling::memory::Rolls;
 use telling::model::ARITIES;
-use terms::cell::BLANK;
 
 fn work(rt: &HostRuntime) -> anyhow::Result<()> {
-    let Some(rolls) = Rolls::new() else {
-        return Err(anyhow!("the model base's arities are not allowed"));
-    };
-    let mut transactions = rolls.transactions;
-    let mut reservations = rolls.reservations;
-    let mut changes = rolls.changes;
-    let mut memory = Memory {
-        transactions: &mut transactions,
-        reservations: &mut reservations,
-        changes: &mut changes,
-    };
-    let Ok(mut manager) = Manager::new(ALL_KINDS, ARITIES, &memory) else {
-        return Err(anyhow!("the memory is not of the rolls' sizes"));
-    };
+    let mut rolls = Rolls::new().context("the model base's arities are not allowed")?;
+    let memory = rolls.memory();
+    let manager = Manager::new(ALL_KINDS, ARITIES, &memory)
+        .ok()
+        .context("the memory is not of the rolls' sizes")?;
     let mut records = [Record::Free; 2];
-    let Ok(mut table) = Table::new(&mut records) else {
-        return Err(anyhow!("a table of two places is refused"));
-    };
-    let mut sheet = [BLANK; 16];
-    let mut log = Log::new(rt);
-    day(&mut manager, &mut memory, &mut table, &mut sheet, &mut log);
-    log.end()?;
+    let table = Table::new(&mut records)
+        .ok()
+        .context("a table of two places is refused")?;
+    let mut desk = Desk::new(manager, memory, table, Log::new(rt));
+    day(&mut desk);
+    let table = desk.end()?;
     println!(rt; "")?;
     holdings(rt, &table)?;
     Ok(())
