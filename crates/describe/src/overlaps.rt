@@ -1,7 +1,7 @@
 // Two planners' descriptions, compared.
 use crate::notation::Written;
 use crate::{read, refuse};
-use compare::outside::{Comparison, Written as Compared, compare};
+use compare::outside::{Written as Compared, compare};
 use compare::sample::Sample;
 use kinds::bank::ALL_KINDS;
 use std::{fmt, io};
@@ -22,10 +22,10 @@ impl fmt::Display for Row {
     }
 }
 
-fn tell(rt: &HostRuntime, comparison: Comparison) -> io::Result<()> {
+fn tell(rt: &HostRuntime, comparison: Option<Sample>) -> io::Result<()> {
     match comparison {
-        Comparison::Clash => println!(rt; "  they clash: no row fits both"),
-        Comparison::Overlap(sample) => {
+        None => println!(rt; "  they clash: no row fits both"),
+        Some(sample) => {
             let row = Row(sample);
             println!(rt; "  they overlap: this row fits both:{row}")
         }

@@ -5,7 +5,7 @@ ghost use Rattle.link.specs.Searches.{Found};
 
 mod decode;
 
-use compare::outside::{Comparison, Written, compare};
+use compare::outside::{Written, compare};
 use compare::sample::Sample;
 use decode::{cells_in, constraints_in};
 use kinds::bank::ALL_KINDS;
@@ -81,8 +81,8 @@ pub extern "C" fn pilmoert_compare(
     let mut sheet = [BLANK; 16];
     let mut bindings = [None; 16];
     match compare(&ALL_KINDS, &own, first, second, &mut sheet, &mut bindings) {
-        Ok(Comparison::Clash) => 0,
-        Ok(Comparison::Overlap(sample)) => {
+        Ok(None) => 0,
+        Ok(Some(sample)) => {
             show_sample(&sample, out);
             1
         }

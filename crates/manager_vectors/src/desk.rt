@@ -7,8 +7,7 @@ use refusals::Fault;
 use runs::call::{Answer, Call};
 use runs::run::run;
 use std::alloc::AllocError;
-use stores::entry::Record;
-use stores::key::Key;
+use terms::row::Row;
 use stores::table::Table;
 use terms::cell::{BLANK, Cell};
 use terms::constraint::Constraint;
@@ -68,7 +67,7 @@ impl Rolls {
         let nought = [cell(b'S', 0)];
         let signature = Signature::new([0; 32]).ok()?;
         let pattern = Pattern::read(&signature, &ALL_KINDS, &nought, &[]).ok()?;
-        let row = Key::new(&nought)?;
+        let row = Row::new(&nought)?;
         let transaction = Transaction {
             number: 0,
             planner: 0,
@@ -121,7 +120,7 @@ pub fn play_under(
         reservations: &mut reservations,
         changes: &mut pending[..changes.min(128)],
     };
-    let mut records = [Record::Free; 2];
+    let mut records = [None; 2];
     let Ok(mut table) = Table::new(&mut records) else {
         return Ok(Vec::new(heap));
     };

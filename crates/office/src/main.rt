@@ -5,7 +5,6 @@
 mod story;
 
 use kinds::bank::ALL_KINDS;
-use stores::entry::Record;
 use story::Sheets;
 use telling::follow::perform;
 use telling::script::Script;
@@ -17,7 +16,7 @@ fn main(rt: HostRuntime) -> anyhow::Result<()> {
     perform(
         &rt,
         ALL_KINDS,
-        &mut [Record::Free; 12],
+        &mut [None; 12],
         "Counts at junctions 12 and 14. Class 2 are cars, class 4 heavy goods vehicles, class 5 buses.",
         &script,
     )

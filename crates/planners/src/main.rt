@@ -11,7 +11,6 @@ use kinds::bank::ALL_KINDS;
 use manager::fault::ManagerFault;
 use runs::call::{Answer, Call};
 use std::io;
-use stores::entry::Record;
 use stores::table::Table;
 use story::Sheets;
 use telling::follow::{Answered, answer};
@@ -29,7 +28,7 @@ fn tell(rt: &HostRuntime, call: Call, answer: Answer, sample: Sample) -> io::Res
 
 // Runs the calls over a new manager and an empty table, and tells each with its answer.
 fn follow(rt: &HostRuntime, calls: &[Call]) -> anyhow::Result<()> {
-    let mut records = [Record::Free; 8];
+    let mut records = [None; 8];
     let mut table = Table::new(&mut records)
         .ok()
         .context("a table of eight places is refused")?;

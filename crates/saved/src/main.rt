@@ -9,7 +9,7 @@ use refusals::{Fault, Refusal};
 use std::{fs, io};
 use stores::count::Count;
 use stores::entry::Size;
-use stores::key::Key;
+use terms::row::Row;
 use stores::store::Store;
 use telling::model::{ARITIES, MONDAY, count_row, hour};
 use terms::cell::Cell;
@@ -29,7 +29,7 @@ fn show(rt: &HostRuntime, bytes: &[u8]) -> io::Result<()> {
 }
 
 fn put<S: Store>(rt: &HostRuntime, store: &mut S, cells: &[Cell], count: u32) -> io::Result<()> {
-    let Some(key) = Key::new(cells) else {
+    let Some(key) = Row::new(cells) else {
         return println!(rt; "this is no row");
     };
     let Some(count) = Count::new(count) else {
@@ -48,7 +48,7 @@ fn put<S: Store>(rt: &HostRuntime, store: &mut S, cells: &[Cell], count: u32) ->
 }
 
 fn drop_row<S: Store>(rt: &HostRuntime, store: &mut S, cells: &[Cell]) -> io::Result<()> {
-    let Some(key) = Key::new(cells) else {
+    let Some(key) = Row::new(cells) else {
         return println!(rt; "this is no row");
     };
     if store.remove(&key) {

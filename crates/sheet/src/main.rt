@@ -5,7 +5,6 @@ use anyhow::{Context, anyhow};
 use kinds::bank::ALL_KINDS;
 use sheets::answering::answer_sheet;
 use std::io::{Read, Write};
-use stores::entry::Record;
 use stores::table::Table;
 use telling::memory::Rolls;
 use telling::model::ARITIES;
@@ -13,7 +12,7 @@ use telling::model::ARITIES;
 // The answers of a sheet.
 fn answers(rt: &HostRuntime, input: &[u8]) -> anyhow::Result<Vec<u8>> {
     let mut rolls = Rolls::new().context("the arities are not allowed")?;
-    let mut records = [Record::Free; 64];
+    let mut records = [None; 64];
     let Ok(mut table) = Table::new(&mut records) else {
         return Err(anyhow!("a table of 64 places is refused"));
     };

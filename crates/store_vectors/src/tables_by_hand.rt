@@ -2,14 +2,14 @@ use refusals::Fault;
 use std::test::Fail;
 use stores::count::Count;
 use stores::entry::Record;
-use stores::key::Key;
+use terms::row::Row;
 use stores::store::Store;
 use stores::table::Table;
 use terms::cell::Cell;
 
 // The row S3 Nn.
-fn row(n: u32) -> Option<Key> {
-    Key::new(&[
+fn row(n: u32) -> Option<Row> {
+    Row::new(&[
         Cell {
             letter: b'S',
             number: 3,
@@ -44,7 +44,7 @@ fn remove<S: Store>(store: &mut S, n: u32) -> bool {
 
 #[test]
 fn a_table_fills_up(rt: HostRuntime) -> Result<(), Fail> {
-    let mut records = [Record::Free; 2];
+    let mut records = [None; 2];
     let mut table = Table::new(&mut records)?;
     for (n, count, refusal) in [
         (1, 10, 0),
@@ -71,7 +71,7 @@ fn a_table_fills_up(rt: HostRuntime) -> Result<(), Fail> {
 fn lengths(rt: HostRuntime) {
     let mut none: [Record; 0] = [];
     assert!(rt; Table::new(&mut none).is_err());
-    let mut many = [Record::Free; 4097];
+    let mut many = [None; 4097];
     assert!(rt; Table::new(&mut many).is_err());
     assert!(rt; Table::new(&mut many[0..4096]).is_ok());
 }

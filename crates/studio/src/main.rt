@@ -5,7 +5,6 @@
 mod story;
 
 use kinds::number::Number;
-use stores::entry::Record;
 use story::Sheets;
 use telling::follow::perform;
 use telling::script::Script;
@@ -17,7 +16,7 @@ fn main(rt: HostRuntime) -> anyhow::Result<()> {
     perform(
         &rt,
         Number,
-        &mut [Record::Free; 16],
+        &mut [None; 16],
         "Turning counts at the market cross, Thursday 16:30 to 17:30. Arm 1 is north, 2 east, 3 south, 4 west.",
         &script,
     )

@@ -5,7 +5,7 @@ use crate::model::ARITIES;
 use kinds::number::Number;
 use ledger::entry::{PendingChange, Reservation, Right, Transaction};
 use manager::memory::Memory;
-use stores::key::Key;
+use terms::row::Row;
 use terms::cell::Cell;
 use terms::pattern::Pattern;
 use terms::signature::Signature;
@@ -27,7 +27,7 @@ impl Rolls {
         }];
         let signature = Signature::new(ARITIES).ok()?;
         let pattern = Pattern::read(&signature, &Number, &nought, &[]).ok()?;
-        let row = Key::new(&nought)?;
+        let row = Row::new(&nought)?;
         let transaction = Transaction {
             number: 0,
             planner: 0,

@@ -6,7 +6,7 @@ use crate::log::Log;
 use kinds::bank::AllKinds;
 use kinds::kind::Kind;
 use manager::fault::ManagerFault;
-use manager::host::{Abandoning, abandon_ticket, begin_ticket, commit_ticket};
+use manager::host::{AbandonFault, abandon_ticket, begin_ticket, commit_ticket};
 use manager::memory::Memory;
 use manager::state::Manager;
 use manager::ticket::Ticket;
@@ -152,9 +152,9 @@ impl<'a> Desk<'a> {
     pub fn abandon(&mut self, ticket: Ticket) {
         let transaction = ticket.number();
         let answer = match abandon_ticket(&mut self.manager, &mut self.memory, ticket) {
-            Abandoning::Changes(number) => Answer::Number(number),
-            Abandoning::NotOpen => Answer::Refused(ManagerFault::NotOpen),
-            Abandoning::Back(_) => unreachable(),
+            Ok(number) => Answer::Number(number),
+            Err(AbandonFault::NotOpen) => Answer::Refused(ManagerFault::NotOpen),
+            Err(AbandonFault::Back(_)) => unreachable(),
         };
         self.log
             .tell(Call::Abandon { transaction }, answer, NO_SAMPLE);

@@ -13,7 +13,6 @@ use desk::Desk;
 use kinds::bank::ALL_KINDS;
 use log::Log;
 use manager::state::Manager;
-use stores::entry::Record;
 use stores::table::Table;
 use telling::follow::holdings;
 use telling::memory::Rolls;
@@ -25,7 +24,7 @@ fn work(rt: &HostRuntime) -> anyhow::Result<()> {
     let manager = Manager::new(ALL_KINDS, ARITIES, &memory)
         .ok()
         .context("the memory is not of the rolls' sizes")?;
-    let mut records = [Record::Free; 2];
+    let mut records = [None; 2];
     let table = Table::new(&mut records)
         .ok()
         .context("a table of two places is refused")?;

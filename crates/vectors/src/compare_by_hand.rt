@@ -1,5 +1,5 @@
 use crate::made::{cell, condition, on};
-use compare::outside::{Comparison, Written, compare};
+use compare::outside::{Written, compare};
 use kinds::bank::ALL_KINDS;
 use refusals::Fault;
 use terms::cell::{BLANK, Cell};
@@ -32,8 +32,8 @@ fn last_of(left: Written, right: Written) -> Cell {
     let mut sheet = [S2; 16];
     let mut bindings = [None; 16];
     match compare(&ALL_KINDS, &arities, left, right, &mut sheet, &mut bindings) {
-        Ok(Comparison::Clash) => BLANK,
-        Ok(Comparison::Overlap(sample)) => {
+        Ok(None) => BLANK,
+        Ok(Some(sample)) => {
             let [_, second, third, ..] = sample.cells;
             if third == BLANK { second } else { third }
         }

@@ -149,7 +149,7 @@ fn rows_are_equal_by_their_cells(rt: HostRuntime) -> Result<(), Fail> {
     assert!(rt; one != other);
     assert_eq!(rt; one.cells().len(), 2);
     assert_eq!(rt;
-        Pattern::from_row(&one).cells().first().copied(),
+        Pattern::from(&one).cells().first().copied(),
         Some(cell(b'S', 3))
     );
     Ok(())
