@@ -2,4 +2,3 @@ mod Splits
 mod Presents
 mod Readings
 mod Writings
-mod Running

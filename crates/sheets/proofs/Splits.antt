@@ -1,60 +1,60 @@
--- What the split of a sheet into its lines keeps from byte to byte.
-use Rattle.std.proofs.Common.{◌≡◌, ℕ, ◌+◌, ◌-◌, ◌<◌, ◌≤◌, List, [], ◌∷◌, ◌++◌, length, get_or, take, drop, sym, ap, ◌∙◌, subst, ap₂, append_assoc, arith, below_more}
-use Rattle.std.specs.List.{flat_map, AllByRecursion}
-use Rattle.std.proofs.lemmas.List.{take_more, flat_map_more, take-append-drop, take_all, take-take, drop-take, length-take, length-drop, get_or-drop, get_or-take}
+-- What the split of a sheet into its lines keeps from line to line.
+use Rattle.std.proofs.Common.{◌≡◌, ℕ, ◌+◌, ◌<◌, ◌≤◌, Bool, true, false, eqb, List, [], ◌∷◌, ◌++◌, length, get_or, take, drop, Some, None, sym, ap, ◌∙◌, ⊎_elim, append_assoc, arith}
+use Rattle.std.specs.List.{flat_map, AllByRecursion, position, position_or_len}
+use Rattle.std.proofs.lemmas.List.{flat_map_more, drop_more, take-append-drop, get_or-take, length-take-le}
+use Rattle.std.proofs.lemmas.List.Quantifiers.{position-Some}
+use Rattle.std.proofs.lemmas.Bool.{cases_eq, cases_lt, eq-eqb, ne_eqb, eqb-true, eqb-false, lt-ltb}
 use Rattle.std.proofs.ByRecursion.{All-push, All-from_get_or}
 use Rattle.sheets.specs.Lines.{Unbroken, LinesOf}
 
-pub record Splitting (input : List ℕ) (ended : List (List ℕ)) (start i : ℕ) : Type 0 where
-  pub within : start ≤ i
-  pub joins : take start input ≡ flat_map (λ line. line ++ (10 ∷ [])) ended
+-- the lines so far and what is left of the sheet
+pub record Splitting (input : List ℕ) (ended : List (List ℕ)) (rest : List ℕ) : Type 0 where
+  pub joins : input ≡ flat_map (λ line. line ++ (10 ∷ [])) ended ++ rest
   pub lines : AllByRecursion Unbroken ended
-  pub clean : (k : ℕ) → start ≤ k → k < i → get_or input k 0 ≡ 10 → ⊥
 
-module _ (input : List ℕ) (ended : List (List ℕ)) (start i : ℕ) (s : Splitting input ended start i) where
-  -- the bytes since the last newline
-  unbroken : i ≤ length input → Unbroken (take (i - start) (drop start input))
-  unbroken l = All-from_get_or (λ b. b ≡ 10 → ⊥) (take (i - start) (drop start input)) 0 each
-    where
-      each : (k : ℕ) → k < length (take (i - start) (drop start input)) → get_or (take (i - start) (drop start input)) k 0 ≡ 10 → ⊥
-      each k h e =
-          let w = s.within in
-          let n = length-take (i - start) (drop start input) in
-          let m = length-drop start input in
-          let lt : k < i - start = omega arith in
-          s.clean (start + k) (omega arith) (omega arith) (sym (get_or-drop start input k 0) ∙ sym (get_or-take (i - start) (drop start input) k 0 lt) ∙ e)
+abbrev newline : ℕ → Bool
+newline b = eqb b 10
 
-  whole : i ≤ length input → take i input ≡ take start input ++ take (i - start) (drop start input)
-  whole l =
-      let w = s.within in
-      let e : start + (i - start) ≡ i = omega arith in
-      sym (take-append-drop start (take i input)) ∙ ap₂ (λ x y. x ++ y) (take-take start i input w) (ap (λ n. drop start (take n input)) (sym e) ∙ drop-take start (i - start) input)
-
-  pub on : (get_or input i 0 ≡ 10 → ⊥) → Splitting input ended start (i + 1)
-  on h = record {
-    within = let w = s.within in omega arith;
-    joins = s.joins;
-    lines = s.lines;
-    clean = λ k a b. below_more (λ n. start ≤ n → get_or input n 0 ≡ 10 → ⊥) i (λ n lt le. s.clean n le lt) (λ _. h) k b a;
-  }
-
-  pub broken : i < length input → get_or input i 0 ≡ 10 → Splitting input (ended ++ (take (i - start) (drop start input) ∷ [])) (i + 1) (i + 1)
-  broken l e = record {
-    within = omega arith;
-    joins = take_more input i 0 l
-        ∙ ap₂ (λ x y. x ++ (y ∷ [])) (whole (omega arith)) e
-        ∙ append_assoc (take start input) (take (i - start) (drop start input)) (10 ∷ [])
-        ∙ ap (λ x. x ++ (take (i - start) (drop start input) ++ (10 ∷ []))) s.joins
-        ∙ flat_map_more (λ line. line ++ (10 ∷ [])) [] ended (take (i - start) (drop start input));
-    lines = All-push Unbroken ended (take (i - start) (drop start input)) s.lines (unbroken (omega arith));
-    clean = λ k a b. absurd (omega arith);
-  }
-
-  pub done : i ≡ length input → LinesOf input ended (take (length input - start) (drop start input))
-  done e =
-      let l : i ≤ length input = omega arith in
+module _ (input : List ℕ) (ended : List (List ℕ)) (rest : List ℕ) (s : Splitting input ended rest) where
+  -- a line more
+  pub broken : (i : ℕ) → position newline rest ≡ Some i → Splitting input (ended ++ (take i rest ∷ [])) (drop (i + 1) rest)
+  broken i e =
+      let p = position-Some newline rest i 0 e in
+      let at : get_or rest i 0 ≡ 10 = eqb-true (get_or rest i 0) 10 p.1 in
+      let cut : rest ≡ take i rest ++ (10 ∷ drop (i + 1) rest) =
+      sym (take-append-drop i rest) ∙ ap (λ t. take i rest ++ t) (drop_more rest i 0 p.0 ∙ ap (λ b. b ∷ drop (i + 1) rest) at) in
       record {
-        joins = sym (take_all (length input) input (omega arith)) ∙ ap (λ n. take n input) (sym e) ∙ whole l ∙ ap₂ (λ x n. x ++ take (n - start) (drop start input)) s.joins e;
-        lines = s.lines;
-        last = subst (λ n. Unbroken (take (n - start) (drop start input))) e (unbroken l);
+        joins = s.joins
+            ∙ ap (λ t. flat_map (λ line. line ++ (10 ∷ [])) ended ++ t) (cut ∙ sym (append_assoc (take i rest) (10 ∷ []) (drop (i + 1) rest)))
+            ∙ sym (append_assoc (flat_map (λ line. line ++ (10 ∷ [])) ended) (take i rest ++ (10 ∷ [])) (drop (i + 1) rest))
+            ∙ ap (λ t. t ++ drop (i + 1) rest) (flat_map_more (λ line. line ++ (10 ∷ [])) [] ended (take i rest));
+        lines = All-push Unbroken ended (take i rest) s.lines (All-from_get_or (λ b. b ≡ 10 → ⊥) (take i rest) 0 each);
       }
+    where
+      each : (k : ℕ) → k < length (take i rest) → get_or (take i rest) k 0 ≡ 10 → ⊥
+      each k h n =
+          let p = position-Some newline rest i 0 e in
+          let l = length-take-le i rest (omega arith) in
+          eqb-false (get_or rest k 0) 10 (p.2 k (omega arith)) (sym (get_or-take i rest k 0 (omega arith)) ∙ n)
+
+-- a rest without a newline
+unbroken : (rest : List ℕ) → length rest ≤ position_or_len newline rest → Unbroken rest
+unbroken [] h = tt
+unbroken (b ∷ rest) h =
+    ⊎_elim (λ e. absurd (first (eq-eqb b 10 e) h)) (λ n. (n, unbroken rest (later (ne_eqb b 10 n) h))) (cases_eq b 10)
+  where
+    first : newline b ≡ true → length (b ∷ rest) ≤ position_or_len newline (b ∷ rest) → ⊥
+    first e l = let m = rw e at l in omega arith
+
+    later : newline b ≡ false → length (b ∷ rest) ≤ position_or_len newline (b ∷ rest) → length rest ≤ position_or_len newline rest
+    later e l = let m = rw e at l in omega arith
+
+some : (n : ℕ) → Some n ≡ None → ⊥
+some n e = cc
+
+pub last : (input : List ℕ) (ended : List (List ℕ)) (rest : List ℕ) → Splitting input ended rest → position newline rest ≡ None → LinesOf input ended rest
+last input ended rest s e = record {
+  joins = s.joins;
+  lines = s.lines;
+  last = unbroken rest (⊎_elim (λ l. let t = lt-ltb (position_or_len newline rest) (length rest) l in absurd (some (position_or_len newline rest) (rw t at e))) (λ g. g) (cases_lt (position_or_len newline rest) (length rest)));
+}

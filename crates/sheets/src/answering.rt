@@ -1,8 +1,9 @@
 // A whole sheet, answered.
-ghost use Rattle.std.specs.Prelude.{◌≡◌, IfOk, vec_items};
-ghost use Rattle.manager.specs.Checks.{Answers};
+ghost use Rattle.std.specs.Prelude.{◌≡◌, MatchResult, vec_items};
+ghost use Rattle.manager.specs.Checks.{Passed};
 ghost use Rattle.manager.specs.New.{new_checks};
-ghost use Rattle.sheets.specs.Sheets.{AnsweredSheet, RanAll, SheetDone};
+ghost use Rattle.sheets.specs.Faults.{Unanswered};
+ghost use Rattle.sheets.specs.Sheets.{RanAll, SheetDone};
 
 use crate::calls::calls_of;
 use crate::fault::SheetFault;
@@ -10,12 +11,10 @@ use crate::reading::read_lines;
 use crate::writing::write_lines;
 use compare::sample::Sample;
 use kinds::kind::Kind;
-use manager::fault::ManagerFault;
 use manager::memory::Memory;
-use requests::request::Request;
 use runs::call::{Answer, Call};
 use runs::run::run;
-use std::alloc::{AllocError, Global};
+use std::alloc::Global;
 use stores::store::Store;
 use terms::cell::BLANK;
 
@@ -34,7 +33,7 @@ struct Run {
     samples: Vec<Sample>,
 }
 
-// Runs the calls; or the manager's memory or signature is refused.
+// Runs the calls; or the manager's memory or signature is refused, or memory is wanting.
 fn run_calls<K: Kind + Drop, S: Store>(
     heap: Global,
     kind: K,
@@ -42,14 +41,14 @@ fn run_calls<K: Kind + Drop, S: Store>(
     memory: &mut Memory,
     store: &mut S,
     calls: &[Call],
-) -> Result<Result<Run, ManagerFault>, AllocError>
-    ensures ran { IfOk result (Answers (new_checks memory.old arities) (λ v. RanAll arities (K.Kind.means kind) (S.Store.places store.old) calls.now v.answers.items v.samples.items (S.Store.means store.old) (S.Store.means store.new)) (λ _. S.Store.means store.new ≡ S.Store.means store.old)) }
+) -> Result<Run, SheetFault>
+    ensures ran { MatchResult result (λ v. Passed (new_checks memory.old arities) × RanAll arities (K.Kind.means kind) (S.Store.places store.old) calls.now v.answers.items v.samples.items (S.Store.means store.old) (S.Store.means store.new)) (λ f. Unanswered (new_checks memory.old arities) (S.Store.means store.old) (S.Store.means store.new) f) }
     ensures places { S.Store.places store.new ≡ S.Store.places store.old }
 {
     let mut answers = vec![in heap; Answer::Done; calls.len()]?;
     let mut samples = vec![in heap; NO_SAMPLE; calls.len()]?;
     let mut sheet = [BLANK; 16];
-    match run(
+    run(
         kind,
         arities,
         memory,
@@ -58,38 +57,8 @@ fn run_calls<K: Kind + Drop, S: Store>(
         calls,
         answers.as_mut_slice(),
         samples.as_mut_slice(),
-    ) {
-        Ok(_) => Ok(Ok(Run { answers, samples })),
-        Err(fault) => Ok(Err(fault)),
-    }
-}
-
-// The answer lines; or the manager's memory or signature is refused.
-fn answer_lines<K: Kind + Drop, S: Store>(
-    heap: Global,
-    kind: K,
-    arities: [u8; 32],
-    memory: &mut Memory,
-    store: &mut S,
-    input: &[u8],
-) -> Result<Result<Vec<u8>, ManagerFault>, AllocError>
-    ensures answered { IfOk result (Answers (new_checks memory.old arities) (λ v. AnsweredSheet arities (K.Kind.means kind) (S.Store.places store.old) input.now (S.Store.means store.old) (S.Store.means store.new) v.items) (λ _. S.Store.means store.new ≡ S.Store.means store.old)) }
-    ensures places { S.Store.places store.new ≡ S.Store.places store.old }
-{
-    let lines = read_lines(heap, &input[0..input.len().min(LIMIT)])?;
-    let calls = calls_of(heap, lines.as_slice())?;
-    match run_calls(heap, kind, arities, memory, store, calls.as_slice())? {
-        Ok(done) => {
-            let out = write_lines(
-                heap,
-                lines.as_slice(),
-                done.answers.as_slice(),
-                done.samples.as_slice(),
-            )?;
-            Ok(Ok(out))
-        }
-        Err(fault) => Ok(Err(fault)),
-    }
+    )?;
+    Ok(Run { answers, samples })
 }
 
 // The answer lines of a sheet that is run over a new manager and the store.
@@ -104,9 +73,14 @@ pub fn answer_sheet<K: Kind + Drop, S: Store>(
     ensures answered { SheetDone vec_items arities (K.Kind.means kind) (S.Store.places store.old) memory.old input.now (S.Store.means store.old) (S.Store.means store.new) result }
     ensures places { S.Store.places store.new ≡ S.Store.places store.old }
 {
-    match answer_lines(heap, kind, arities, memory, store, input) {
-        Ok(Ok(out)) => Ok(out),
-        Ok(Err(fault)) => Err(SheetFault::Manager(fault)),
-        Err(_) => Err(SheetFault::NoMemory),
-    }
+    let lines = read_lines(heap, &input[..LIMIT.min(input.len())])?;
+    let calls = calls_of(heap, lines.as_slice())?;
+    let done = run_calls(heap, kind, arities, memory, store, calls.as_slice())?;
+    let out = write_lines(
+        heap,
+        lines.as_slice(),
+        done.answers.as_slice(),
+        done.samples.as_slice(),
+    )?;
+    Ok(out)
 }

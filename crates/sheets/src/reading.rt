@@ -15,8 +15,7 @@ fn read_ended(heap: Global, ended: &[&[u8]]) -> Result<Vec<Option<Request>>, All
 {
     let mut lines = Vec::new(heap);
     for line in ended {
-        let request = read_request(heap, line)?;
-        lines.push(request)?;
+        lines.push(read_request(heap, line)?)?;
     }
     Ok(lines)
 }
@@ -27,7 +26,7 @@ pub fn read_lines(heap: Global, input: &[u8]) -> Result<Vec<Option<Request>>, Al
 {
     let split = split_lines(heap, input)?;
     let mut lines = read_ended(heap, split.ended.as_slice())?;
-    if split.rest.len() > 0 {
+    if !split.rest.is_empty() {
         lines.push(None)?;
     }
     Ok(lines)

@@ -1,5 +1,5 @@
 // The lines of a sheet.
-ghost use Rattle.std.specs.Prelude.{map, IfOk};
+ghost use Rattle.std.specs.Prelude.{◌≡◌, ◌==◌, map, position, IfOk};
 ghost use Rattle.sheets.specs.Lines.{LinesOf};
 
 use std::alloc::{AllocError, Global};
@@ -11,19 +11,21 @@ pub struct Lines<'a> {
     pub rest: &'a [u8],
 }
 
+// Where the first newline stands.
+fn newline_in(input: &[u8]) -> Option<usize>
+    ensures { result ≡ position (λ b. b == 10) input.now }
+{
+    input.iter().position(|b| *b == b'\n')
+}
+
 pub fn split_lines<'a>(heap: Global, input: &'a [u8]) -> Result<Lines<'a>, AllocError>
     ensures { IfOk result (λ l. LinesOf input.now (map (λ x. x.now) l.ended.items) l.rest.now) }
 {
     let mut ended = Vec::new(heap);
-    let mut start = 0;
-    for i in 0..input.len() {
-        if input[i] == b'\n' {
-            ended.push(&input[start..i])?;
-            start = i + 1;
-        }
+    let mut rest = input;
+    while let Some(end) = newline_in(rest) {
+        ended.push(&rest[..end])?;
+        rest = &rest[end + 1..];
     }
-    Ok(Lines {
-        ended,
-        rest: &input[start..],
-    })
+    Ok(Lines { ended, rest })
 }

@@ -49,40 +49,33 @@ fn holder_of(fault: ManagerFault) -> Option<(u32, u32)>
 fn widened(place: Option<usize>) -> Option<u64>
     ensures { result ≡ place }
 {
-    match place {
-        Some(place) => Some(place as u64),
-        None => None,
-    }
+    place.map(|place| place as u64)
 }
 
 fn counted(found: Option<Count>) -> Option<u64>
     ensures { result ≡ option_map count_of found }
 {
-    match found {
-        Some(count) => Some(u64::from(count.value)),
-        None => None,
-    }
+    found.map(|count| u64::from(count.value))
 }
 
 fn refused(word: Word, refusal: Refusal, holder: Option<(u32, u32)>, sample: Sample) -> AnswerLine
     ensures { result ≡ refused_line word refusal holder sample }
 {
-    let number = u32::from(refusal.number);
+    let line = AnswerLine {
+        word: Some(word),
+        refusal: u32::from(refusal.number),
+        first: widened(refusal.place),
+        second: None,
+        sample: None,
+    };
     match holder {
         Some((transaction, reservation)) => AnswerLine {
-            word: Some(word),
-            refusal: number,
             first: Some(u64::from(transaction)),
             second: Some(u64::from(reservation)),
             sample: Some(sample),
+            ..line
         },
-        None => AnswerLine {
-            word: Some(word),
-            refusal: number,
-            first: widened(refusal.place),
-            second: None,
-            sample: None,
-        },
+        None => line,
     }
 }
 

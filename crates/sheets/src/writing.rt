@@ -21,15 +21,16 @@ pub fn write_lines(
     ensures { IfOk result (λ v. v.items ≡ answer_lines (map (option_map asked_of) lines.now) answers.now samples.now) }
 {
     let mut out = Vec::new(heap);
-    let mut k = 0;
+    // two iterators, since the contract of their `zip` is silent on what it has left at its end
+    let mut answers = answers.iter();
+    let mut samples = samples.iter();
     for line in lines {
         match line {
             None => write_answer(&NOT_LAID, &mut out)?,
             Some(request) => {
-                if k < answers.len() && k < samples.len() {
-                    let told = answer_line(request.word(), answers[k], samples[k]);
+                if let Some((answer, sample)) = answers.next().zip(samples.next()) {
+                    let told = answer_line(request.word(), *answer, *sample);
                     write_answer(&told, &mut out)?;
-                    k += 1;
                 }
             }
         }

@@ -1,23 +1,17 @@
-use Rattle.std.proofs.Common.{◌+◌, map, vec_items, sym, ap, ◌∙◌, subst, arith}
-use Rattle.std.proofs.lemmas.List.{map-append}
-use Rattle.sheets.proofs.Splits.{Splitting, on, broken, done}
+use Rattle.std.proofs.Common.{◌+◌, map, drop, vec_items, sym, ap, ◌∙◌, subst}
+use Rattle.std.proofs.lemmas.List.{map-append, take_rest}
+use Rattle.sheets.proofs.Splits.{Splitting, broken, last}
 use Rattle.sheets.proofs.split.split_lines.Goals as goal
-use Rattle.sheets.proofs.split.split_lines.Goals.{then-input-i-eq10+in_ok-push, else-input-i-eq10}
 
-pub loop-i-preserved : goal.loop-i-preserved
-loop-i-preserved c =
+pub loop-end-preserved : goal.loop-end-preserved
+loop-end-preserved c =
     let input = c.args.input.now in
-    let i = c.loop-i.i in
-    let before = map (λ x. x.now) (vec_items c.loop-i.ended) in
-    elim c.if-input-i-eq10.branch [
-      | then-input-i-eq10+in_ok-push w ↦
-          subst (λ k. Splitting input (map (λ x. x.now) (vec_items c.if-input-i-eq10.ended)) k (i + 1)) (sym w.start-is)
-          (subst (λ l. Splitting input l (i + 1) (i + 1)) (sym (ap (λ v. map (λ x. x.now) (vec_items v)) w.ended-is ∙ ap (map (λ x. x.now)) w.in_ok-push.ensures.items ∙ map-append (λ x. x.now) (vec_items c.loop-i.ended) _))
-          (broken input before c.loop-i.start i c.loop-i.invariant (omega arith) w.if-input-i-eq10.true))
-      | else-input-i-eq10 w ↦
-          subst (λ k. Splitting input (map (λ x. x.now) (vec_items c.if-input-i-eq10.ended)) k (i + 1)) (sym w.start-is)
-          (subst (λ v. Splitting input (map (λ x. x.now) (vec_items v)) c.loop-i.start (i + 1)) (sym w.ended-is) (on input before c.loop-i.start i c.loop-i.invariant w.if-input-i-eq10.false))
-    ]
+    let rest = c.loop-end.rest.now in
+    let i = c.in-Some.end in
+    let ended = map (λ x. x.now) (vec_items c.loop-end.ended) in
+    subst (Splitting input (map (λ x. x.now) (vec_items c.push.new.self))) (sym (take_rest rest (i + 1)))
+    (subst (λ l. Splitting input l (drop (i + 1) rest)) (sym (ap (map (λ x. x.now)) c.in_ok-push.ensures.items ∙ map-append (λ x. x.now) (vec_items c.loop-end.ended) _))
+    (broken input ended rest c.loop-end.invariant i (sym c.newline_in.ensures ∙ c.in-Some.is)))
 
 pub returns : goal.returns
-returns c = done c.args.input.now (map (λ x. x.now) (vec_items c.loop-i.ended)) c.loop-i.start c.loop-i.i c.loop-i.invariant (omega arith)
+returns c = last c.args.input.now (map (λ x. x.now) (vec_items c.loop-end.ended)) c.loop-end.rest.now c.loop-end.invariant (sym c.newline_in.ensures ∙ c.in_default.is)
