@@ -120,7 +120,10 @@ impl<'a> Desk<'a> {
                 reservation,
                 &mut self.sheet,
             )
-            .map_or_else(Answer::Refused, |(rows, total)| Answer::Figures(rows, total));
+            .map_or_else(
+                Answer::Refused,
+                |(rows, total)| Answer::Figures(rows, total),
+            );
         let call = Call::Survey {
             transaction,
             reservation,
@@ -132,13 +135,7 @@ impl<'a> Desk<'a> {
         let transaction = ticket.number();
         let answer = self
             .manager
-            .write(
-                &mut self.memory,
-                transaction,
-                cells,
-                count,
-                &mut self.sheet,
-            )
+            .write(&mut self.memory, transaction, cells, count, &mut self.sheet)
             .map_or_else(Answer::Refused, |()| Answer::Done);
         let call = Call::Write {
             transaction,
@@ -163,12 +160,7 @@ impl<'a> Desk<'a> {
     // The changes enter the store; a refused commit hands the ticket back.
     pub fn commit(&mut self, ticket: Ticket) -> Option<Ticket> {
         let transaction = ticket.number();
-        let committed = commit_ticket(
-            &mut self.manager,
-            &mut self.memory,
-            &mut self.store,
-            ticket,
-        );
+        let committed = commit_ticket(&mut self.manager, &mut self.memory, &mut self.store, ticket);
         let answer = match &committed {
             Ok(number) => Answer::Number(*number),
             Err((_, fault)) => Answer::Refused(*fault),

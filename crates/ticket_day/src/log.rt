@@ -33,7 +33,6 @@ impl<'a> Log<'a> {
     }
 
     pub fn end(self) -> io::Result<()> {
-        let Log { rt: _, failed } = self;
-        failed
+        self.failed
     }
 }
