@@ -115,8 +115,13 @@ trim_last s h e =
     (cases_lt i (length s - 1)))
 
 -- and what ends in no blank stays
-pub trim_whole : (s : List ℕ) → Marked s → s ≡ trim s
-trim_whole s m = marked_same s (trim s) m (trim_marked s) (λ i. sym (trim_alike s i))
+pub trim_none : (s : List ℕ) → length s < 1 → trim s ≡ s
+trim_none s h = sym (marked_same s (trim s) (λ l _. absurd (omega arith)) (trim_marked s) (λ i. sym (trim_alike s i)))
+
+pub trim_whole : (s : List ℕ) → 1 ≤ length s → (get_or s (length s - 1) 0 ≡ 32 → ⊥) → trim s ≡ s
+trim_whole s h n =
+    let d = get_or_default s (length s - 1) 0 32 (omega arith) in
+    sym (marked_same s (trim s) (λ _ e. n (d ∙ e)) (trim_marked s) (λ i. sym (trim_alike s i)))
 
 pub trim_front : (s : List ℕ) → take (length (trim s)) s ≡ trim s
 trim_front s =

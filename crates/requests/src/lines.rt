@@ -33,6 +33,7 @@ pub fn alike(x: &[u8], y: &[u8]) -> bool
 }
 
 // A line without the blanks at its end.
+#[tactic(auto, using(crate::proofs::Alike::trim_last, crate::proofs::Alike::trim_none, crate::proofs::Alike::trim_whole))]
 pub fn trimmed(line: &[u8]) -> &[u8]
     ensures { result.now ≡ trim line.now }
 {

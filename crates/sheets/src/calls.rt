@@ -64,6 +64,7 @@ pub fn call_of<'a>(request: &'a Request) -> Call<'a>
 pub fn calls_of<'a>(heap: Global, lines: &'a [Option<Request>]) -> Result<Vec<Call<'a>>, AllocError>
     ensures { IfOk result (λ v. map asked_by v.items ≡ present (map (option_map asked_of) lines.now)) }
 {
+    // a loop, since a call borrows its cells: what it asks is known, and not which value it is, as a chain would have to say
     let mut calls = Vec::new(heap);
     for line in lines {
         if let Some(request) = line {

@@ -13,6 +13,7 @@ use std::alloc::{AllocError, Global};
 fn read_ended(heap: Global, ended: &[&[u8]]) -> Result<Vec<Option<Request>>, AllocError>
     ensures { IfOk result (λ v. ReadEach (map (λ x. x.now) ended.now) (map (option_map asked_of) v.items)) }
 {
+    // a loop, since reading a line allocates
     let mut lines = Vec::new(heap);
     for line in ended {
         lines.push(read_request(heap, line)?)?;
