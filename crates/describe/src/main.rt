@@ -46,12 +46,14 @@ fn list_values(rt: &HostRuntime, condition: Condition) -> io::Result<()> {
 }
 
 fn list_constraint(rt: &HostRuntime, constraint: Constraint) -> io::Result<()> {
-    let variable = constraint.variable;
-    let form = char::from(constraint.condition.form);
-    let a = constraint.condition.a;
-    let b = constraint.condition.b;
+    let Constraint {
+        variable,
+        condition,
+    } = constraint;
+    let Condition { form, a, b } = condition;
+    let form = char::from(form);
     println!(rt; "  V{variable} under {form} {a} {b} is one of:")?;
-    list_values(rt, constraint.condition)
+    list_values(rt, condition)
 }
 
 // The smallest value that the constraints on the variable leave, if there are any.

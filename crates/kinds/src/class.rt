@@ -42,6 +42,7 @@ impl Kind for Class {
         if !Class::knows(condition) || v > Class::TOP.code {
             return None;
         }
+        // the next class is as far on as the mask shifted down to v has zeros at its end
         let rest = condition.a >> v;
         (rest != 0).then_some(v + rest.trailing_zeros())
     }

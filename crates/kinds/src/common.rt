@@ -26,6 +26,7 @@ fn pass<K: Kind>(kind: &K, conditions: &[Condition], v: u32) -> Option<u32>
 fn smallest_code<K: Kind>(kind: &K, first: Condition, rest: &[Condition]) -> Option<u32>
     ensures { Smallest (Holds (K.Kind.means kind.now) (first ∷ rest.now)) 0 result }
 {
+    // a loop and no chain: it ends only because v rises and has a top
     let mut v = 0;
     'rise: loop {
         let start = kind.next(first, v)?;

@@ -43,7 +43,7 @@ pub fn first_from<const L: u8, const T: u32, S: Single<L, T>, M: Tested<T>>(
     )
 }
 
-// Whether bit k of the mask is set; no mask has a bit past 31.
+// Whether bit k of the mask is set, by a shift and a mask; no mask has a bit past 31.
 pub fn bit(mask: u32, k: u32) -> bool
     ensures { Decides result (Bit mask k) }
 {

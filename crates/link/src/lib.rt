@@ -50,7 +50,7 @@ fn show_fault(fault: PatternFault, out: &mut [u8]) -> u32 {
     u32::from(refusal.number)
 }
 
-// Compares two patterns: 0 if they clash, 1 if they overlap, else the number of the refusal.
+// Compares two patterns: 0 if they clash, 1 if they overlap, else the number of the refusal, since callers in C get numbers alone.
 // A cell is five bytes, its letter and its number, the high byte first; a constraint is thirteen: variable, form, a and b.
 // An overlap writes 61 bytes to `out`, the sample's twelve cells and 1 if more follow; a refusal writes its place to the first byte.
 #[unsafe(no_mangle)]

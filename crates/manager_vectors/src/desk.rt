@@ -107,14 +107,12 @@ pub fn play_under(
     calls: &[Call],
 ) -> Result<Vec<u8>, AllocError> {
     let heap = rt.alloc();
-    let Some(Rolls {
-        mut transactions,
-        mut reservations,
-        changes: mut pending,
-    }) = Rolls::new()
-    else {
+    let Some(rolls) = Rolls::new() else {
         return Ok(Vec::new(heap));
     };
+    let mut transactions = rolls.transactions;
+    let mut reservations = rolls.reservations;
+    let mut pending = rolls.changes;
     let mut memory = Memory {
         transactions: &mut transactions,
         reservations: &mut reservations,

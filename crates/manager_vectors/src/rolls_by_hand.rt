@@ -153,7 +153,8 @@ fn a_full_roll_of_reservations(rt: HostRuntime) -> Result<(), Fail> {
 // The roll of changes takes 128; the next row finds no place, and a row that has a change is changed again.
 #[test]
 fn a_full_roll_of_changes(rt: HostRuntime) -> Result<(), Fail> {
-    let mut rows = [row(0); 129];
+    let first = row(0);
+    let mut rows = [first; 129];
     for (n, row) in (0..129).zip(&mut rows) {
         row[1] = cell(b'N', n);
     }
@@ -162,7 +163,7 @@ fn a_full_roll_of_changes(rt: HostRuntime) -> Result<(), Fail> {
     for row in &rows {
         calls.push(write(row, 5))?;
     }
-    calls.push(write(&rows[0], 6))?;
+    calls.push(write(&first, 6))?;
     check(
         &rt,
         play(&rt, calls.as_slice())?.as_slice(),

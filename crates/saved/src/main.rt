@@ -63,9 +63,9 @@ fn correct<S: Store>(rt: &HostRuntime, store: &mut S) -> io::Result<()> {
     put(rt, store, &count_at(8, 3, 1, 3), 351)?;
     drop_row(rt, store, &count_at(7, 3, 1, 3))?;
     drop_row(rt, store, &count_at(7, 3, 1, 3))?;
-    put(rt, store, &count_at(9, 0, 3, 1), 88)?;
-    put(rt, store, &count_at(10, 0, 3, 1), 61)?;
-    put(rt, store, &count_at(11, 0, 3, 1), 57)?;
+    for (of_day, count) in [(9, 88), (10, 61), (11, 57)] {
+        put(rt, store, &count_at(of_day, 0, 3, 1), count)?;
+    }
     let Size { places, rows } = store.size();
     println!(rt; "{rows} of {places} places are taken")
 }
