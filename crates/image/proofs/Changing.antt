@@ -1,24 +1,44 @@
 -- An image after a write to one line.
-use Rattle.std.proofs.Common.{◌≡◌, ℕ, ◌+◌, ◌*◌, ◌/◌, ◌^◌, ◌<◌, ◌≤◌, true, false, List, length, get_or, take, drop, set, Some, None, Ok, Err, count_by, Option, sym, refl, ap, ◌∙◌, subst, inl, inr, ⊎_elim, arith, MatchOption}
+use Rattle.std.proofs.Common.{◌≡◌, ℕ, ◌*◌, ◌/◌, ◌<◌, ◌≤◌, true, false, List, length, get_or, take, drop, set, Some, None, Ok, Err, count_by, Option, Result, Bool, sym, refl, ap, ◌∙◌, subst, inl, inr, ⊎_elim, arith, MatchOption, ◌⊎◌}
 use borrow.Rule.Slice.PartMut.{put_mid}
-use Rattle.std.proofs.lemmas.List.{take-take, drop-drop, drop-take}
 use Rattle.std.proofs.lemmas.Bool.{cases_eq, cases_Bool, both_ways}
 use Rattle.terms.specs.declared.cell.Cell.{Cell}
-use Rattle.columns.specs.Columns.{columns, Reads}
-use Rattle.columns.proofs.Numbers.{columns_same, columns_length}
+use Rattle.columns.proofs.Numbers.{columns_same}
+use Rattle.stores.specs.declared.fault.StoreFault.{StoreFault}
 use Rattle.stores.specs.declared.fault.StoreFault.TheVariants.{Full}
-use Rattle.stores.specs.Means.{Put}
+use Rattle.std.specs.Option.{option_map}
+use Rattle.stores.specs.declared.count.Count.{Count}
+use Rattle.stores.specs.Means.{Put, Dropped, count_of}
 use Rattle.stores.specs.Places.{Place, count_at, taken, hits, held, rows_in, look, Apart, NoHit, AtFree}
 use Rattle.terms.specs.Rows.{Storable}
 use Rattle.stores.proofs.Writes.{PutList, DropList, hit_find, hit_apart, put_hit, drop_hit, drop_none, put_full, free_apart, put_free}
 use Rattle.stores.proofs.Puts.{put_means, drop_means}
 use Rattle.image.specs.Lines.{slots, shown, blank_line}
+use Rattle.image.specs.declared.image.Image.{Image}
+use Rattle.image.specs.Tested.{sound_tested}
 use Rattle.image.specs.Texts.{Proper, text}
 use Rattle.image.specs.Meaning.{line, lines_in, meaning, entries, Shows, Sound, NoKey, AtKey, FirstFree}
-use Rattle.image.specs.Change.{OnlyLine, AtRow, NoRow, Written, Removed}
-use Rattle.image.proofs.Decoding.{text_front, text_length, tail_in}
+use Rattle.image.specs.Change.{OnlyLine, AtRow, NoRow, PutLines, DropLines}
+use Rattle.image.proofs.Decoding.{CountRead, text_front, text_length, tail_in}
 use Rattle.image.proofs.Parts.{only_line}
 use Rattle.image.proofs.Meanings.{hits_from, front_from, entries_length, entries_at, entries_set, shows_from, meaning_from, fit_tail, idle}
+
+-- the image after a put and after a drop: its lines, its map, and that it is still an image
+pub record Written (xs ys : List ℕ) (q : List Cell) (n : ℕ) (r : Result (Unit {0}) StoreFault) : Type 0 where
+  pub lines : PutLines xs ys q n r
+  pub sound : Sound Storable ys
+  pub put : Put (look (held (entries xs))) (look (held (entries ys))) (length (rows_in (held (entries xs)))) (lines_in xs) q n r
+  pub long : length ys ≡ length xs
+
+pub record Removed (xs ys : List ℕ) (q : List Cell) (r : Bool) : Type 0 where
+  pub lines : DropLines xs ys q r
+  pub sound : Sound Storable ys
+  pub dropped : Dropped (look (held (entries xs))) (look (held (entries ys))) q r
+  pub long : length ys ≡ length xs
+
+-- the image says of its bytes that they are sound
+pub sound_image : (t : Image) → Sound Storable t.lines.bytes.now
+sound_image t = sound_tested t.lines.bytes.now t.whole t.some t.few t.shown t.apart
 
 pub row_front : (cs : List Cell) (s : List ℕ) → Storable cs → s ≡ shown cs 0 → take 120 s ≡ slots 12 cs
 row_front cs s f e = ap (take 120) e ∙ text_front Storable idle (Some (cs, 0)) (f, omega arith) 12 (omega arith)
@@ -41,43 +61,22 @@ module _ (xs : List ℕ) (sound : Sound Storable xs) (cs : List Cell) (fit : Sto
         hit = record { within = omega arith; here = λ d. at_line k d w ∙ hits_from Storable idle (line k xs) (sound.shows k w) cs fit (at.here ∙ is) };
       }
 
--- the count of a line
-pub tail_part : (k n : ℕ) (xs : List ℕ) → n ≡ 7 → take n (drop (k * 128 + 120) xs) ≡ take 7 (drop 120 (line k xs))
-unfolding line
-tail_part k n xs e =
-    ap (λ m. take m (drop (k * 128 + 120) xs)) e ∙ sym (take-take 7 8 (drop (k * 128 + 120) xs) (omega arith))
-    ∙ sym (ap (take 7) (drop-take 120 8 (drop (k * 128) xs) ∙ ap (take 8) (drop-drop 120 (k * 128) xs)))
-
--- a line's count stands in its columns
-pub record Counted (xs : List ℕ) (cs : List Cell) (s : List ℕ) : Type 0 where
-  pub count : ℕ
-  pub few : count ≤ 999999
-  pub shown : s ≡ columns (length s) count
-  pub found : look (held (entries xs)) cs ≡ Some count
-
-pub counted : (xs : List ℕ) → Sound Storable xs → (cs : List Cell) (k : ℕ) → AtRow xs cs k → (s : List ℕ) → s ≡ take 7 (drop 120 (line k xs)) → Counted xs cs s
-counted xs sound cs k at s e =
+-- the count that is read of the row's line
+pub count_found : (xs : List ℕ) → Sound Storable xs → (cs : List Cell) (k : ℕ) → AtRow xs cs k → (s : List ℕ) → s ≡ line k xs → (r : Option Count) → CountRead (take 7 (drop 120 s)) r → option_map count_of r ≡ look (held (entries xs)) cs
+count_found xs sound cs k at s is r read =
     let w = at.within in
     let sh = sound.shows k w in
     let m = entries_at xs k None w in
-    go (meaning (line k xs)) sh.good (sym (ap (λ p. hits p cs) m) ∙ at.hit.here None) (e ∙ fit_tail (line k xs) sh)
-    (hit_find (entries xs) cs k at.hit sound.apart None ∙ ap (λ p. Some (count_at p)) m)
+    go (meaning (line k xs)) sh.good (sym (ap (λ p. hits p cs) m) ∙ at.hit.here None) (ap (λ t. take 7 (drop 120 t)) is ∙ fit_tail (line k xs) sh) r read
+    ∙ sym (hit_find (entries xs) cs k at.hit sound.apart None ∙ ap (λ p. Some (count_at p)) m)
   where
-    go : (p : Place) → Proper Storable p → hits p cs ≡ true → s ≡ tail_in p → look (held (entries xs)) cs ≡ Some (count_at p) → Counted xs cs s
-    go None q h t f = absurd (both_ways false refl h)
-    go (Some x) q h t f =
-        let b = q.1 in
-        let l : length s ≡ 7 = ap length t ∙ columns_length 7 x.1 (omega arith) (omega arith) (omega arith) in
-        record { count = x.1; few = b; shown = t ∙ ap (λ m. columns m x.1) (sym l); found = f }
-
-pub counted_none : (xs : List ℕ) (cs : List Cell) (s : List ℕ) → Counted xs cs s → Reads s None → ⊥
-counted_none xs cs s k r = let f = k.few in r k.count (omega arith) k.shown
-
-pub counted_some : (xs : List ℕ) (cs : List Cell) (s : List ℕ) (v : ℕ) → v < 2 ^ 32 → Counted xs cs s → Reads s (Some v) → (v ≤ 999999) × (look (held (entries xs)) cs ≡ Some v)
-counted_some xs cs s v h k r =
-    let f = k.few in
-    let e : v ≡ k.count = columns_same (length s) v k.count (omega arith) (omega arith) (sym r ∙ k.shown) in
-    (omega arith, k.found ∙ ap Some (sym e))
+    go : (p : Place) → Proper Storable p → hits p cs ≡ true → take 7 (drop 120 s) ≡ tail_in p → (r : Option Count) → CountRead (take 7 (drop 120 s)) r → option_map count_of r ≡ Some (count_at p)
+    go None q h t r read = absurd (both_ways false refl h)
+    go (Some x) q h t None read = absurd (read x.1 q.1 t)
+    go (Some x) q h t (Some c) read =
+        let few = q.1 in
+        let f = c.few in
+        ap Some (columns_same 7 c.value x.1 (omega arith) (omega arith) (sym read ∙ t))
 
 -- one line is written
 module _ (xs ys : List ℕ) (sound : Sound Storable xs) (k : ℕ) (within : k < lines_in xs) (e : Place) (p : Proper Storable e) (only : OnlyLine k (text e) xs ys) where
@@ -111,7 +110,7 @@ module _ (xs ys : List ℕ) where
 
 module _ (xs ys : List ℕ) (sound : Sound Storable xs) (q : List Cell) (k : ℕ) where
   module _ (fit : Storable q) (n : ℕ) (small : n ≤ 999999) (only : OnlyLine k (shown q n) xs ys) where
-    pub put_at : AtRow xs q k → Written xs ys q n (Ok tt)
+    put_at : AtRow xs q k → Written xs ys q n (Ok tt)
     put_at at =
         let es = entries xs in
         record {
@@ -122,7 +121,7 @@ module _ (xs ys : List ℕ) (sound : Sound Storable xs) (q : List Cell) (k : ℕ
           long = only.long;
         }
 
-    pub put_new : NoRow xs q → FirstFree xs k → Written xs ys q n (Ok tt)
+    put_new : NoRow xs q → FirstFree xs k → Written xs ys q n (Ok tt)
     put_new none first =
         let es = entries xs in
         let l = entries_length xs in
@@ -134,6 +133,9 @@ module _ (xs ys : List ℕ) (sound : Sound Storable xs) (q : List Cell) (k : ℕ
           put = as_put xs ys _ q n (entries_are xs ys sound k w (Some (q, n)) (fit, small) only) (put_free es q none k free None (Some (q, n)) refl refl tt);
           long = only.long;
         }
+
+    pub put_to : (AtRow xs q k ⊎ (NoRow xs q × FirstFree xs k)) → Written xs ys q n (Ok tt)
+    put_to t = ⊎_elim put_at (λ f. put_new f.0 f.1) t
 
   pub drop_at_row : OnlyLine k blank_line xs ys → AtRow xs q k → Removed xs ys q true
   drop_at_row only at =

@@ -1,5 +1,5 @@
 -- What the fields of a line say of the lines that agree with it.
-use Rattle.std.proofs.Common.{◌≡◌, ℕ, ◌+◌, ◌-◌, ◌*◌, ◌^◌, ◌<◌, ◌≤◌, List, [], ◌∷◌, ◌++◌, length, get_or, take, drop, Some, None, sym, refl, ap, ◌∙◌, subst, ⊎_elim, arith, take-add}
+use Rattle.std.proofs.Common.{◌≡◌, ℕ, ◌+◌, ◌-◌, ◌*◌, ◌^◌, ◌<◌, ◌≤◌, List, [], ◌∷◌, ◌++◌, length, get_or, take, drop, Some, None, MatchOption, Option, ◌≢◌, sym, refl, ap, ◌∙◌, subst, ⊎_elim, arith, take-add}
 use lib.Seq.{take-nil}
 use Rattle.std.specs.List.{slice_get}
 use Rattle.std.proofs.lemmas.List.{append_assoc, length-append, take_at, take_all, take-take, take_more, length-drop, length-take-le, length-take, get_or_at}
@@ -7,8 +7,9 @@ use Rattle.std.proofs.lemmas.Option.{slice_get_past}
 use Rattle.std.proofs.lemmas.Bool.{cases_lt}
 use Rattle.refusals.specs.Places.{FirstFault}
 use Rattle.terms.specs.declared.cell.Cell.{Cell}
-use Rattle.columns.specs.Columns.{blank, columns}
+use Rattle.columns.specs.Columns.{blank, columns, Reads}
 use Rattle.columns.proofs.Numbers.{columns_length, columns_same}
+use Rattle.stores.specs.declared.count.Count.{Count}
 use Rattle.stores.specs.Places.{Place, row_at}
 use Rattle.terms.specs.Rows.{Storable}
 use Rattle.image.specs.Lines.{Small, slot_text, slots, shown, blank_line, field, Blanks, Marked, Scanned}
@@ -210,13 +211,17 @@ module _ (Row : List Cell → Type 0) (fit : (cs : List Cell) → Row cs → Sto
   blank_wrong nil wrong None p c t = wrong (sym t)
   blank_wrong nil wrong (Some x) p c t = let s = (fit x.0 p.0).some in let l = ap length (c ∙ nil) in omega arith
 
-  pub count_wrong : 0 < length cs → ((n : ℕ) → n < 10 ^ 7 → tail ≡ columns 7 n → ⊥) → (x : Place) → Proper Row x → row_at x ≡ cs → tail_in x ≡ tail → ⊥
+  pub count_wrong : 0 < length cs → ((n : ℕ) → n ≤ 999999 → tail ≡ columns 7 n → ⊥) → (x : Place) → Proper Row x → row_at x ≡ cs → tail_in x ≡ tail → ⊥
   count_wrong some wrong None p c t = let l = ap length c in omega arith
-  count_wrong some wrong (Some x) p c t = let h = p.1 in wrong x.1 (omega arith) (sym t)
-
-  pub large_wrong : 0 < length cs → (n : ℕ) → tail ≡ columns 7 n → n < 10 ^ 7 → 999999 < n → (x : Place) → Proper Row x → row_at x ≡ cs → tail_in x ≡ tail → ⊥
-  large_wrong some n e h large None p c t = let l = ap length c in omega arith
-  large_wrong some n e h large (Some x) p c t = let k = p.1 in let s = columns_same 7 x.1 n (omega arith) (omega arith) (t ∙ e) in omega arith
+  count_wrong some wrong (Some x) p c t = wrong x.1 p.1 (sym t)
 
 pub tail_seven : (line : List ℕ) → length line ≡ 128 → length (take 7 (drop 120 line)) ≡ 7
 tail_seven line l = let d = length-drop 120 line in length-take-le 7 (drop 120 line) (omega arith)
+
+-- the count that seven columns show
+abbrev pub CountRead : List ℕ → Option Count → Type 0
+CountRead tail r = MatchOption r ((n : ℕ) → n ≤ 999999 → tail ≢ columns 7 n) (λ c. tail ≡ columns 7 c.value)
+
+pub count_read : (tail : List ℕ) (v : ℕ) (r : Option Count) → length tail ≡ 7 → v < 2 ^ 32 → Reads tail (Some v) → MatchOption r (999999 < v) (λ c. c.value ≡ v) → CountRead tail r
+count_read tail v None l s e h = λ n few q. let same = columns_same 7 v n (omega arith) (omega arith) (sym (e ∙ ap (λ m. columns m v) l) ∙ q) in omega arith
+count_read tail v (Some c) l s e h = e ∙ ap (λ m. columns m v) l ∙ ap (columns 7) (sym h)

@@ -1,3 +1,4 @@
+mod Arrays
 mod Slots
 mod Cutting
 mod Decoding

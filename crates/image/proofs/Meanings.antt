@@ -1,7 +1,7 @@
 -- What lines mean, and which line is whose.
-use Rattle.std.proofs.Common.{◌≡◌, ℕ, zero, suc, ◌+◌, ◌*◌, ◌/◌, ◌^◌, ◌<◌, ◌≤◌, true, false, cond, List, [], ◌∷◌, ◌++◌, map, length, get_or, take, drop, set, is_some, Some, None, count_by, Option, sym, refl, ap, ◌∙◌, subst, ⊎_elim, arith}
+use Rattle.std.proofs.Common.{◌≡◌, ℕ, zero, suc, ◌+◌, ◌*◌, ◌/◌, ◌<◌, ◌≤◌, true, false, cond, List, [], ◌∷◌, ◌++◌, map, length, get_or, take, drop, set, is_some, Some, None, count_by, Option, sym, refl, ap, ◌∙◌, subst, ⊎_elim, arith}
 use Rattle.std.specs.List.{slice_get}
-use Rattle.std.specs.Option.{option_to_list}
+use Rattle.std.specs.Option.{option_to_list, option_map}
 use Rattle.std.specs.Int.Digits.{number_from_digits}
 use Rattle.std.specs.Str.{bytes_eq}
 use Rattle.std.proofs.lemmas.List.FromFn.{length-map-range_with_len, get_or-map-range_with_len}
@@ -11,18 +11,19 @@ use Rattle.std.proofs.lemmas.Option.{slice_get-get_or}
 use Rattle.std.proofs.lemmas.List.Sums.{sum_by-cons}
 use Rattle.std.proofs.lemmas.Bool.{cases_eq, cases_Bool, cond-true, cond-false, both_ways}
 use Rattle.terms.specs.declared.cell.Cell.{Cell}
-use Rattle.columns.specs.Columns.{blank, columns, cell_text, Short, Reads}
+use Rattle.columns.specs.Columns.{blank, cell_text, Short}
 use Rattle.columns.specs.Steps.{worth}
-use Rattle.columns.proofs.Numbers.{reads_back, columns_length, columns_same}
+use Rattle.columns.proofs.Numbers.{reads_back, columns_same}
 use Rattle.columns.proofs.Cells.{cell_marked}
-use Rattle.stores.specs.Places.{Holding, Place, row_at, count_at, taken, hits}
+use Rattle.stores.specs.declared.count.Count.{Count}
+use Rattle.stores.specs.Places.{Holding, Place, row_at, taken, hits}
 use Rattle.terms.specs.Equality.{cells_eq}
 use Rattle.terms.specs.Rows.{same_true, same_self, Storable}
 use Rattle.image.specs.Lines.{Scanned, slot_text, slots, field, shown, blank_line}
 use Rattle.image.specs.Texts.{Proper, text}
 use Rattle.image.specs.Meaning.{line, lines_in, cell_in, slot_in, cells_shown, meaning, entries, Shows}
 use Rattle.image.proofs.Slots.{split, Little, little, slots_more, slots_length, front_more, take_from_slots, take_nth, agrees}
-use Rattle.image.proofs.Decoding.{tail_in, text_is, small_in, few_in, tail_long, text_front, text_length}
+use Rattle.image.proofs.Decoding.{CountRead, tail_in, text_is, small_in, few_in, tail_long, text_front, text_length}
 
 same_bytes : (xs ys : List ℕ) → xs ≡ ys → bytes_eq xs ys ≡ true
 same_bytes xs ys e = (bytes_eq-Decides xs ys).1 e
@@ -176,32 +177,20 @@ pub none_from : (o : Place) (cs : List Cell) → Proper Storable o → row_at o 
 none_from None cs p e n = refl
 none_from (Some x) cs p e n = absurd (n (subst Storable e p.0))
 
--- what is read of a proper line that has cells; the number that its tail shows is the count
-pub record RowAndCount (o : Place) (cs : List Cell) (tail : List ℕ) : Type 0 where
-  pub count : ℕ
-  pub few : count ≤ 999999
-  pub shown : tail ≡ columns (length tail) count
-  pub same : o ≡ Some (cs, count)
-
-pub row_and_count : (o : Place) (cs : List Cell) (tail : List ℕ) → Proper Storable o → row_at o ≡ cs → 0 < length cs → tail ≡ tail_in o → RowAndCount o cs tail
-row_and_count None cs tail p e h t = absurd (let l = ap length e in omega arith)
-row_and_count (Some x) cs tail p e h t =
-    let k = p.1 in
-    let l : length tail ≡ 7 = ap length t ∙ columns_length 7 x.1 (omega arith) (omega arith) (omega arith) in
-    record { count = x.1; few = k; shown = t ∙ ap (λ m. columns m x.1) (sym l); same = ap (λ v. Some (v, x.1)) e }
-
-module _ (o : Place) (cs : List Cell) (tail : List ℕ) (k : RowAndCount o cs tail) where
-  pub tail_never : Reads tail None → ⊥
-  tail_never r = let f = k.few in r k.count (omega arith) k.shown
-
-  pub tail_count : (v : ℕ) → v < 2 ^ 32 → Reads tail (Some v) → v ≡ k.count
-  tail_count v h r = let f = k.few in columns_same (length tail) v k.count (omega arith) (omega arith) (sym r ∙ k.shown)
-
-  pub read_back : (ds : List Cell) (m v : ℕ) → ds ≡ cs → m ≡ v → v < 2 ^ 32 → Reads tail (Some v) → Some (ds, m) ≡ o
-  read_back ds m v d e h r = ap (λ xs. Some (xs, m)) d ∙ ap (λ n. Some (cs, n)) (e ∙ tail_count v h r) ∙ sym k.same
-
 pub fit_tail : (s : List ℕ) → Shows Storable s → take 7 (drop 120 s) ≡ tail_in (meaning s)
 fit_tail s w = shows_tail Storable idle s w
+
+-- the row and the count that are read of a proper line
+pub row_read : (s : List ℕ) (cs : List Cell) → Shows Storable s → Scanned s cs → 0 < length cs → (r : Option Count) → CountRead (take 7 (drop 120 s)) r → option_map (λ c. (cs, c.value)) r ≡ meaning s
+row_read s cs w scan some r k = go (meaning s) w.good (scanned_cells s cs w scan) (fit_tail s w) r k
+  where
+    go : (o : Place) → Proper Storable o → row_at o ≡ cs → take 7 (drop 120 s) ≡ tail_in o → (r : Option Count) → CountRead (take 7 (drop 120 s)) r → option_map (λ c. (cs, c.value)) r ≡ o
+    go None p e t r k = absurd (let l = ap length e in omega arith)
+    go (Some x) p e t None k = absurd (k x.1 p.1 t)
+    go (Some x) p e t (Some c) k =
+        let h = p.1 in
+        let f = c.few in
+        ap (λ v. Some (v, c.value)) (sym e) ∙ ap (λ n. Some (x.0, n)) (columns_same 7 c.value x.1 (omega arith) (omega arith) (sym k ∙ t))
 
 pub count_all : (rs : List Place) → ((j : ℕ) (d : Place) → j < length rs → taken (get_or rs j d) ≡ true) → count_by taken rs ≡ length rs
 count_all [] f = refl
@@ -209,7 +198,3 @@ count_all (r ∷ rs) f =
     let a : ◌≡◌ {A = ℕ} (cond (taken r) 1 0) 1 = ap (λ b. cond b 1 0) (f 0 r (omega arith)) in
     let b = count_all rs (λ j d h. f (suc j) d (omega arith)) in
     sum_by-cons (λ x. cond (taken x) 1 0) r rs ∙ omega arith
-
--- a place that is taken has its row and count
-pub some_key : (o : Place) (x : Holding) → Some x ≡ o → Some x ≡ Some (row_at o, count_at o)
-some_key o x e = ap (λ v. Some (row_at v, count_at v)) e

@@ -1,18 +1,23 @@
 -- The lines of an image, one line more.
-use Rattle.std.proofs.Common.{◌≡◌, ℕ, zero, suc, ◌+◌, ◌<◌, ◌≤◌, Bool, true, false, cond, not, List, [], ◌∷◌, ◌++◌, length, get_or, take, is_some, Some, None, Option, sym, refl, ap, ◌∙◌, subst, ⊎_elim, add-one, arith}
+use Rattle.std.proofs.Common.{◌≡◌, ℕ, zero, suc, ◌+◌, ◌<◌, ◌≤◌, Bool, true, false, cond, not, List, [], ◌∷◌, ◌++◌, length, get_or, take, is_some, Some, None, Ok, Err, MatchOption, MatchResult, Option, Result, inr, sym, refl, ap, ◌∙◌, subst, ⊎_elim, add-one, arith}
 use Rattle.std.proofs.lemmas.List.{append-nil, length-take-le, get_or-take, take_more, take_all}
 use Rattle.std.proofs.lemmas.Bool.{cases_eq, cases_Bool, cond-false, both_ways, and_parts, and_from, not-true}
+use Rattle.std.specs.Result.{IsErrAnd}
+use Rattle.std.proofs.lemmas.Result.{err_from_is_err_and}
 use Rattle.kinds.specs.Meaning.{Meaning, Sound as KindSound}
 use Rattle.terms.specs.declared.cell.Cell.{Cell}
 use Rattle.terms.specs.Proper.{Arities, RowCells}
+use Rattle.stores.specs.declared.entry.Entry.{Entry}
+use Rattle.stores.specs.declared.fault.StoreFault.TheVariants.{Again}
+use Rattle.stores.specs.Table.{holding_of}
 use Rattle.stores.specs.Places.{Holding, Place, row_at, taken, hits, held, look, Apart}
 use Rattle.terms.specs.Equality.{cells_eq}
 use Rattle.terms.specs.Rows.{Storable, same_true, same_self}
 use Rattle.stores.proofs.Writes.{none_find}
 use Rattle.image.specs.Lines.{slots}
-use Rattle.image.specs.Texts.{Proper, text}
+use Rattle.image.specs.Texts.{Proper, text, Decoded}
 use Rattle.image.specs.Meaning.{line, lines_in, meaning, entries, Shows, Sound, NoKey, AtKey}
-use Rattle.image.specs.Open.{Sizes, SameRow, Good, GoodTo, Accepted}
+use Rattle.image.specs.Open.{Sizes, SameRow, Good, GoodTo, LineFault, Accepted}
 use Rattle.terms.proofs.Storing.{row_storable}
 use Rattle.image.proofs.Decoding.{text_front}
 use Rattle.image.proofs.Meanings.{hits_from, shows_front, shows_cells, entries_length, entries_at, shows_from, meaning_from}
@@ -107,9 +112,23 @@ sound_weaker Row fit xs s = record { whole = s.whole; allowed = s.allowed; shows
     weaker : (s : List ℕ) → Shows Row s → Shows Storable s
     weaker s w = record { good = kept (meaning s) w.good; same = w.same }
 
+pub none_at : {X P : Type 0} (Q : X → Type 0) (o : Option X) → MatchOption o P Q → is_some o ≡ false → P
+none_at Q None h e = h
+none_at Q (Some x) h e = absurd (both_ways true e refl)
+
+-- what comes of a `map_err`
+module _ {T E D : Type 0} (o : Result T D) (P : E → D → Type 0) where
+  pub mapped_ok : (r : Result T E) → MatchResult r (λ x. o ≡ Ok x) (λ e. IsErrAnd o (P e)) → (x : T) → o ≡ Ok x → r ≡ Ok x
+  mapped_ok (Ok y) h x i = let same : y ≡ x = cc in ap (λ z. Ok z) same
+  mapped_ok (Err e) h x i = let p = err_from_is_err_and o h in let j = p.1 in absurd (let z : ◌≡◌ {A = ℕ} 0 1 = cc in omega arith)
+
+  pub mapped_err : (r : Result T E) → MatchResult r (λ x. o ≡ Ok x) (λ e. IsErrAnd o (P e)) → (d : D) → o ≡ Err d → (e : E) × (r ≡ Err e) × P e d
+  mapped_err (Ok y) h d i = absurd (let z : ◌≡◌ {A = ℕ} 0 1 = cc in omega arith)
+  mapped_err (Err e) h d i = let p = err_from_is_err_and o h in let j = p.1 in let same : p.0 ≡ d = cc in (e, refl, subst (P e) same p.2)
+
 -- what a line's decoding says of it, after good lines
 module _ (Row : List Cell → Type 0) (fit : (cs : List Cell) → Row cs → Storable cs) (xs : List ℕ) (k : ℕ) (before : GoodTo Row xs k) where
-  pub good_none : line k xs ≡ text None → Good Row xs k
+  good_none : line k xs ≡ text None → Good Row xs k
   good_none e = record {
     shows = shows_from Row fit (line k xs) None tt e;
     new = λ j h s. both_ways (taken (meaning (line k xs))) (ap taken (meaning_from Row fit (line k xs) None tt e)) s.second;
@@ -122,19 +141,30 @@ module _ (Row : List Cell → Type 0) (fit : (cs : List Cell) → Row cs → Sto
     front_is : front ≡ slots 12 x.0
     front_is = same_front ∙ ap (take 120) e ∙ text_front Row fit (Some x) p 12 (omega arith)
 
-    pub good_some : NoKey xs front k → Good Row xs k
+    good_some : NoKey xs front k → Good Row xs k
     good_some none = record {
       shows = shows_from Row fit (line k xs) (Some x) p e;
       new = λ j h s. none j h (shows_front Row fit (line j xs) (before j h).shows ∙ ap (slots 12) (s.row ∙ ap row_at means) ∙ sym front_is);
     }
 
-    pub again : (j : ℕ) → AtKey xs front k j → Shows Row (line k xs) × ((j : ℕ) × (j < k) × SameRow xs j k)
+    again : (j : ℕ) → AtKey xs front k j → Shows Row (line k xs) × ((j : ℕ) × (j < k) × SameRow xs j k)
     again j at =
         let cells = shows_cells Row fit (line j xs) (before j at.within).shows x.0 (fit x.0 p.0) (at.here ∙ front_is) in
         let hit = hits_from Row fit (line j xs) (before j at.within).shows x.0 (fit x.0 p.0) (at.here ∙ front_is) in (
           shows_from Row fit (line k xs) (Some x) p e,
           (j, at.within, record { first = (hit_parts (meaning (line j xs)) x.0 hit).0; second = ap taken means; row = cells ∙ sym (ap row_at means) }),
         )
+
+  -- by what its decoding shows, and whether an earlier line begins alike
+  module _ (front : List ℕ) (same : front ≡ take 120 (line k xs)) where
+    pub line_good : (o : Option Entry) → Decoded Row (line k xs) (Ok o) → (is_some o ≡ true → NoKey xs front k) → Good Row xs k
+    line_good None d none = good_none d.1
+    line_good (Some e) d none = good_some (holding_of e) d.0 d.1 front same (none refl)
+
+    pub line_again : (o : Option Entry) → Decoded Row (line k xs) (Ok o) → is_some o ≡ true → (a : Option ℕ) → MatchOption a (NoKey xs front k) (λ j. AtKey xs front k j) → is_some a ≡ true → LineFault Row xs k (Again k)
+    line_again None d t a h i = absurd (both_ways false refl t)
+    line_again (Some e) d t None h i = absurd (both_ways false refl i)
+    line_again (Some e) d t (Some j) h i = let a = again (holding_of e) d.0 d.1 front same j h in inr (refl, a.0, a.1)
 
 pub accepted : (sig ns : List ℕ) (M : Meaning) → KindSound M → (xs : List ℕ) → sig ≡ ns → Arities ns → Sizes xs → GoodTo (RowCells sig M) xs (lines_in xs) → Accepted ns M xs xs
 accepted sig ns M sound xs e a z g =

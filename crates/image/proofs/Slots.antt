@@ -1,11 +1,11 @@
 -- A line by its cells: what its front says of the cells.
-use Rattle.std.proofs.Common.{◌≡◌, ℕ, zero, suc, ◌+◌, ◌*◌, ◌<◌, ◌≤◌, List, [], ◌∷◌, ◌++◌, length, get_or, take, drop, set, Some, None, Ok, Err, decimal, Option, Result, sym, refl, ap, ◌∙◌, subst, ⊎_elim, suc-le-suc, zero-le, add-one, arith, take-add}
+use Rattle.std.proofs.Common.{◌≡◌, ℕ, zero, suc, ◌+◌, ◌-◌, ◌*◌, ◌<◌, ◌≤◌, List, [], ◌∷◌, ◌++◌, length, get_or, take, drop, set, Some, None, Ok, Err, decimal, Option, Result, sym, refl, ap, ◌∙◌, subst, ⊎_elim, suc-le-suc, zero-le, add-one, arith, take-add}
 use borrow.Rule.Slice.PartMut.{put_mid}
 use lib.Seq.{take-length}
 use Rattle.std.specs.List.{slice_get}
 use Rattle.std.specs.Option.{option_to_list}
-use Rattle.std.proofs.lemmas.List.{append-nil, append_assoc, length-append, take_at, drop_at, take_all, take-take, length-drop, length-take-le, drop_all, drop-drop, drop_more, set_at}
-use Rattle.std.proofs.lemmas.Slice.{take-put_mid}
+use Rattle.std.proofs.lemmas.List.{append-nil, append_assoc, length-append, take_at, drop_at, take_all, take-take, length-drop, length-take-le, drop_all, drop-replicate, take-replicate, drop-drop, drop_more, set_at}
+use Rattle.std.proofs.lemmas.Slice.{take-put_mid, drop-put_mid}
 use Rattle.std.proofs.lemmas.Fmt.{length-decimal-le}
 use Rattle.std.proofs.ByRecursion.{All-get_or}
 use Rattle.std.proofs.lemmas.Option.{slice_get-get_or, slice_get_past}
@@ -225,40 +225,48 @@ pub blank_written : (s : List ℕ) → s ≡ blank 128 → set s 127 10 ≡ blan
 unfolding blank_line
 blank_written s e = ap (λ t. set t 127 10) e
 
--- the steps by which a line is written
-pub slots_none : (line : List ℕ) (cs : List Cell) → take 0 line ≡ slots 0 cs
-unfolding slots
-slots_none line cs = refl
+-- the first j cells of a line are written, and those after them are blank
+pub record Begins (line : List ℕ) (cs : List Cell) (j : ℕ) : Type 0 where
+  pub front : take (j * 10) line ≡ slots j cs
+  pub rest : Blanks line j 12
 
-module _ (line : List ℕ) (cs : List Cell) (j n : ℕ) (long : length line ≡ 128) (ten : n ≡ 10) (low : j < 12) (storable : Storable cs) (front : take (j * 10) line ≡ slots j cs) where
+pub begins_blank : (line : List ℕ) (cs : List Cell) → line ≡ blank 128 → Begins line cs 0
+unfolding slots field
+begins_blank line cs e = record {
+  front = refl;
+  rest = λ j lo hi. ap (λ l. take 10 (drop (j * 10) l)) e ∙ ap (take 10) (drop-replicate (j * 10) 128 32) ∙ take-replicate 10 (128 - j * 10) 32 (omega arith);
+}
+
+pub begins_all : (line : List ℕ) (cs : List Cell) (j : ℕ) → Begins line cs j → length cs ≤ j → j ≤ 12 → take 120 line ≡ slots 12 cs
+begins_all line cs j b h few = blanks_front (12 - j) line cs j 12 (omega arith) h b.rest b.front
+
+field_past : (line ys : List ℕ) (j n i : ℕ) → j * 10 + n ≤ i * 10 → j * 10 ≤ length line → length ys ≡ n → field i (put_mid (j * 10) n line ys) ≡ field i line
+unfolding field
+field_past line ys j n i h l e = ap (take 10) (drop-put_mid (j * 10) n line ys (i * 10) h l e)
+
+module _ (line : List ℕ) (cs : List Cell) (j n : ℕ) (long : length line ≡ 128) (ten : n ≡ 10) (low : j < 12) (storable : Storable cs) (begins : Begins line cs j) where
   slot_ten : length (take n (drop (j * 10) line)) ≡ 10
   slot_ten = ap length (part_field j n line ten) ∙ field_length j line low long
 
-  pub cell_slot : (ds : List Cell) (d : Cell) (ys : List ℕ) (r : Result (Unit {0}) NoRoom) → ds ≡ cs → j < length ds
-      → WritesCell (get_or ds j d) (take n (drop (j * 10) line)) ys r → take ((j + 1) * 10) (put_mid (j * 10) n line ys) ≡ slots (j + 1) cs
-  cell_slot ds d ys (Ok u) e h w =
-      let lt : j < length cs = let l = ap length e in omega arith in
-      put_slot line cs j n ys (omega arith) storable.short front
-      (w.0 ∙ ap (λ xs. cell_text (get_or xs j d)) e ∙ ap slot_text (sym (slice_get-get_or cs j d lt)))
-  cell_slot ds d ys (Err f) e h w =
-      let lt : j < length cs = let l = ap length e in omega arith in
-      absurd (w.1 (subst (λ xs. Short (get_or xs j d)) (sym e) (All-get_or Short cs j d lt storable.short)) slot_ten)
+  pub begins_more : (d : Cell) (ys : List ℕ) (r : Result (Unit {0}) NoRoom) → j < length cs
+      → WritesCell (get_or cs j d) (take n (drop (j * 10) line)) ys r → Begins (put_mid (j * 10) n line ys) cs (j + 1)
+  begins_more d ys (Ok u) h w =
+      let is : ys ≡ slot_text (slice_get cs j) = w.0 ∙ ap slot_text (sym (slice_get-get_or cs j d h)) in
+      let l : length ys ≡ 10 = ap length is ∙ slot_length (slice_get cs j) (little cs j storable.short) in
+      record {
+        front = put_slot line cs j n ys (omega arith) storable.short begins.front is;
+        rest = λ i lo hi. field_past line ys j n i (omega arith) (omega arith) (omega arith) ∙ begins.rest i (omega arith) hi;
+      }
+  begins_more d ys (Err f) h w = absurd (w.1 (All-get_or Short cs j d h storable.short) slot_ten)
 
-  pub blank_slot : (ds : List Cell) (ys : List ℕ) → ds ≡ cs → length ds ≤ j → ys ≡ blank (length (take n (drop (j * 10) line)))
-      → take ((j + 1) * 10) (put_mid (j * 10) n line ys) ≡ slots (j + 1) cs
-  blank_slot ds ys e h y =
-      let ge : length cs ≤ j = let l = ap length e in omega arith in
-      put_slot line cs j n ys (omega arith) storable.short front (y ∙ ap blank slot_ten ∙ ap slot_text (sym (slice_get_past cs j ge)))
-
-pub count_tail : (line : List ℕ) (cs : List Cell) (n j : ℕ) (ys : List ℕ) (r : Result (Unit {0}) NoRoom) → length line ≡ 128 → n ≤ 999999 → 12 ≤ j → j ≤ 12 → take (j * 10) line ≡ slots j cs
+pub count_tail : (line : List ℕ) (cs : List Cell) (n : ℕ) (ys : List ℕ) (r : Result (Unit {0}) NoRoom) → length line ≡ 128 → n ≤ 999999 → take 120 line ≡ slots 12 cs
     → Writes (decimal n) (take 7 (drop 120 line)) ys r → set (put_mid 120 7 line ys) 127 10 ≡ shown cs n
 unfolding columns
-count_tail line cs n j ys (Ok u) l h lo hi front w =
-    let k : j ≡ 12 = omega arith in
+count_tail line cs n ys (Ok u) l h front w =
     let d = length-drop 120 line in
     let s : length (take 7 (drop 120 line)) ≡ 7 = length-take-le 7 (drop 120 line) (omega arith) in
-    put_tail line cs n ys l h (subst (λ m. take (m * 10) line ≡ slots m cs) k front) (w.0 ∙ ap (λ m. columns m n) s)
-count_tail line cs n j ys (Err f) l h lo hi front w =
+    put_tail line cs n ys l h front (w.0 ∙ ap (λ m. columns m n) s)
+count_tail line cs n ys (Err f) l h front w =
     let d = length-drop 120 line in
     let s : length (take 7 (drop 120 line)) ≡ 7 = length-take-le 7 (drop 120 line) (omega arith) in
     let m = length-decimal-le 7 n (omega arith) (omega arith) (omega arith) in

@@ -2,11 +2,9 @@
 use Rattle.std.specs.Prelude.{◌≡◌, ℕ, ◌<◌, Bool, true, false, ◌⊎◌, List, length, Ok, Err, Result, ◌≢◌}
 use Rattle.terms.specs.declared.cell.Cell.{Cell}
 use Rattle.stores.specs.declared.fault.StoreFault.{StoreFault}
-use Rattle.stores.specs.Means.{Put, Dropped}
-use Rattle.stores.specs.Places.{held, rows_in, look, NoHit, AtHit}
-use Rattle.terms.specs.Rows.{Storable}
+use Rattle.stores.specs.Places.{NoHit, AtHit}
 use Rattle.image.specs.Lines.{shown, blank_line}
-use Rattle.image.specs.Meaning.{line, lines_in, entries, Sound, FirstFree}
+use Rattle.image.specs.Meaning.{line, lines_in, entries, FirstFree}
 
 -- line k becomes new, and every other line stays, byte for byte
 pub record OnlyLine (k : ℕ) (new xs ys : List ℕ) : Type 0 where
@@ -41,16 +39,3 @@ pub record Blanked (xs ys : List ℕ) (q : List Cell) : Type 0 where
 abbrev pub DropLines : List ℕ → List ℕ → List Cell → Bool → Type 0
 DropLines xs ys q true = Blanked xs ys q
 DropLines xs ys q false = ys ≡ xs
-
--- the image after a put and after a drop: its lines, its map, and that it is still an image
-pub record Written (xs ys : List ℕ) (q : List Cell) (n : ℕ) (r : Result (Unit {0}) StoreFault) : Type 0 where
-  pub lines : PutLines xs ys q n r
-  pub sound : Sound Storable ys
-  pub put : Put (look (held (entries xs))) (look (held (entries ys))) (length (rows_in (held (entries xs)))) (lines_in xs) q n r
-  pub long : length ys ≡ length xs
-
-pub record Removed (xs ys : List ℕ) (q : List Cell) (r : Bool) : Type 0 where
-  pub lines : DropLines xs ys q r
-  pub sound : Sound Storable ys
-  pub dropped : Dropped (look (held (entries xs))) (look (held (entries ys))) q r
-  pub long : length ys ≡ length xs

@@ -3,11 +3,6 @@ use Rattle.std.specs.Prelude.{◌≡◌, ℕ, zero, suc, ◌*◌, ◌<◌, ◌�
 use Rattle.std.specs.List.{slice_get, AllByRecursion}
 use Rattle.terms.specs.declared.cell.Cell.{Cell}
 use Rattle.columns.specs.Columns.{blank, columns, cell_text, Short}
-use Rattle.image.specs.declared.cells.Cells.{Cells}
-
--- the cells that were found in a line
-abbrev pub found_in : Cells → List Cell
-found_in r = take r.len r.cells
 
 -- cells with numbers of at most nine digits
 abbrev pub Small : List Cell → Type 0

@@ -6,6 +6,7 @@ use Rattle.terms.specs.declared.cell.Cell.{Cell}
 use Rattle.stores.specs.declared.entry.Entry.{Entry}
 use Rattle.stores.specs.Places.{Place}
 use Rattle.stores.specs.Table.{holding_of}
+use Rattle.image.specs.declared.marred.Marred.{Marred}
 use Rattle.image.specs.Lines.{shown, blank_line}
 
 -- what a line can mean: a row with its count, or nothing
@@ -42,6 +43,6 @@ abbrev pub BadField : (List Cell → Type 0) → List ℕ → ℕ → Type 0
 BadField Row line f = FirstFault (LineFields Row) (fields line) f
 
 -- a line is one of three: the text of a row and its count, blank, or bad at a first field
-abbrev pub Decoded : (List Cell → Type 0) → List ℕ → Result (Option Entry) ℕ → Type 0
+abbrev pub Decoded : (List Cell → Type 0) → List ℕ → Result (Option Entry) Marred → Type 0
 Decoded Row line (Ok o) = Proper Row (option_map holding_of o) × (line ≡ text (option_map holding_of o))
-Decoded Row line (Err f) = BadField Row line f
+Decoded Row line (Err m) = BadField Row line m.field

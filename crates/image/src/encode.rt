@@ -15,14 +15,9 @@ pub(crate) fn encode(key: &Row, count: Count, line: &mut [u8])
     requires { length line.old ≡ 128 }
     ensures { line.new ≡ shown (cells_of key.now) (count_of count) }
 {
-    let cells = key.cells();
-    for j in 0..12 {
-        let part = &mut line[j * 10..j * 10 + 10];
-        if j < cells.len() {
-            let _ = write_cell(cells[j], part);
-        } else {
-            write_blank(part);
-        }
+    write_blank(line);
+    for (j, cell) in key.cells().iter().enumerate() {
+        let _ = write_cell(*cell, &mut line[j * 10..j * 10 + 10]);
     }
     let _ = write_number(count.value, &mut line[120..127]);
     line[127] = b'\n';

@@ -1,35 +1,30 @@
-// The fields of a line.
-ghost use Rattle.std.specs.Prelude.{◌≡◌, ◌≤◌, length, Some};
-ghost use Rattle.terms.specs.Faults.{pattern_refusal};
-ghost use Rattle.image.specs.Lines.{FirstMarked};
+// The fields of a line: twelve cells of ten columns, the count in seven, and the newline.
+ghost use Rattle.std.specs.Prelude.{◌≡◌, ℕ, ◌≤◌, take, drop, MatchOption, MatchResult, ◌≢◌};
+ghost use Rattle.columns.specs.Columns.{columns};
+ghost use Rattle.image.specs.Lines.{Blanks, Marked};
 
+use crate::marred::Marred;
 use columns::blank::is_blank;
-use kinds::fault::BankFault;
-use terms::fault::PatternFault;
+use columns::number::read_number;
+use stores::count::Count;
 
-// The first cell of a line, from one on, that is not blank.
-pub(crate) fn first_marked(line: &[u8], from: usize) -> Option<usize>
-    requires long { length line.now ≡ 128 }
-    requires within { from ≤ 12 }
-    ensures { FirstMarked line.now from result }
+// The cells of a line are blank from one on; else the first that is not.
+pub(crate) fn check_blank(line: &[u8; 128], from: usize) -> Result<(), Marred>
+    requires { from ≤ 12 }
+    ensures { MatchResult result (λ _. Blanks line.now from 12) (λ m. Marked line.now from m.field) }
 {
-    for j in from..12 {
-        if !is_blank(&line[j * 10..j * 10 + 10]) {
-            return Some(j);
-        }
+    let (fields, _) = line.as_chunks::<10>();
+    match fields[from..].iter().position(|field| !is_blank(field)) {
+        Some(after) => Err(Marred {
+            field: from + after,
+        }),
+        None => Ok(()),
     }
-    None
 }
 
-// The place that a fault names.
-pub(crate) fn fault_place(fault: PatternFault) -> usize
-    ensures { (pattern_refusal fault).place ≡ Some result }
+// The count of a line, or absent where its columns show none.
+pub(crate) fn read_count(line: &[u8; 128]) -> Option<Count>
+    ensures { MatchOption result ((n : ℕ) → n ≤ 999999 → take 7 (drop 120 line.now) ≢ columns 7 n) (λ c. take 7 (drop 120 line.now) ≡ columns 7 c.value) }
 {
-    match fault {
-        PatternFault::Bank(BankFault::Value { place }) => place,
-        PatternFault::Bank(BankFault::Condition { place }) => place,
-        PatternFault::Arity { symbol } => symbol,
-        PatternFault::Structure { place } => place,
-        PatternFault::Constraint { place } => place,
-    }
+    Count::new(read_number(&line[120..127])?)
 }

@@ -1,19 +1,22 @@
 // A store in an image of lines in the caller's memory.
-ghost use Rattle.std.specs.Prelude.{◌≡◌, ◌*◌, ◌≤◌, true, length};
+ghost use Rattle.std.specs.Prelude.{◌≡◌, ◌⊎◌, ◌*◌, ◌≤◌, true, length, count_by, MatchOption};
 ghost use Rattle.stores.specs.Maps.{listed_of, look_small};
-ghost use Rattle.stores.specs.Places.{held, rows_in, look, Apart};
+ghost use Rattle.stores.specs.Places.{held, rows_in, look, taken, Apart};
 ghost use Rattle.stores.specs.Means.{count_of, Put, Dropped};
 ghost use Rattle.terms.specs.Fitting.{cells_of};
-ghost use Rattle.image.specs.Change.{PutLines, DropLines};
-ghost use Rattle.image.specs.Meaning.{lines_in, entries, shown_to};
+ghost use Rattle.image.specs.Change.{AtRow, NoRow, PutLines, DropLines};
+ghost use Rattle.image.specs.Meaning.{lines_in, entries, shown_to, FirstFree};
 ghost use Rattle.image.specs.Tested.{entries_small, entries_room};
 
+use crate::encode::encode;
+use crate::fields::read_count;
+use crate::lines::{first_blank, lines_of, nth_taken, place_of, read_line, used_lines};
 use crate::memory::Lines;
 use stores::count::Count;
 use stores::entry::{Entry, Size};
 use stores::fault::StoreFault;
-use terms::row::Row;
 use stores::store::Store;
+use terms::row::Row;
 
 // An image of 1 to 4,096 lines, each free or the line of a row and its count, no row twice.
 #[derive(Drop)]
@@ -24,6 +27,31 @@ pub struct Image<'a> {
     ghost few: { lines_in lines.bytes.now ≤ 4096 },
     ghost shown: { shown_to (lines_in lines.bytes.now) lines.bytes.now ≡ true },
     ghost apart: { Apart (held (entries lines.bytes.now)) },
+}
+
+const NOTHING: Count = Count { value: 0 };
+
+// Lent as a whole to look, so that what was found is known of the lines that are then written.
+impl Image<'_> {
+    // The line of a row.
+    fn place(&self, key: &Row) -> Option<usize>
+        ensures { MatchOption result (NoRow self.now.lines.bytes.now (cells_of key.now)) (λ k. AtRow self.now.lines.bytes.now (cells_of key.now) k) }
+    {
+        let mut text = [b' '; 128];
+        encode(key, NOTHING, &mut text);
+        let all = &*self.lines.bytes;
+        place_of(all, all.len() / 128, &text[0..120])
+    }
+
+    // The line for a put: that of the row, or the first blank one.
+    fn place_to_put(&self, key: &Row) -> Option<usize>
+        ensures { MatchOption result (NoRow self.now.lines.bytes.now (cells_of key.now) × (count_by taken (entries self.now.lines.bytes.now) ≡ length (entries self.now.lines.bytes.now))) (λ k. AtRow self.now.lines.bytes.now (cells_of key.now) k ⊎ (NoRow self.now.lines.bytes.now (cells_of key.now) × FirstFree self.now.lines.bytes.now k)) }
+    {
+        match self.place(key) {
+            Some(k) => Some(k),
+            None => first_blank(self.lines.bytes),
+        }
+    }
 }
 
 impl<'a> Store for Image<'a> {
@@ -44,7 +72,8 @@ impl<'a> Store for Image<'a> {
     ghost room = { λ t. entries_room t.lines.bytes.now };
 
     fn find(&self, key: &Row) -> Option<Count> {
-        self.lines.find(key)
+        let k = self.place(key)?;
+        read_count(&lines_of(self.lines.bytes)[k])
     }
 
     // The row's line is written, or for a new row the first blank one, and no other.
@@ -53,7 +82,13 @@ impl<'a> Store for Image<'a> {
         ensures places { lines_in self.new.lines.bytes.now ≡ lines_in self.old.lines.bytes.now }
         ensures lines { PutLines self.old.lines.bytes.now self.new.lines.bytes.now (cells_of key.now) (count_of count) result }
     {
-        self.lines.put(key, count)
+        match self.place_to_put(key) {
+            Some(k) => {
+                self.lines.write(k, key, count);
+                Ok(())
+            }
+            None => Err(StoreFault::Full),
+        }
     }
 
     // The row's line is blanked, and no other.
@@ -62,14 +97,24 @@ impl<'a> Store for Image<'a> {
         ensures places { lines_in self.new.lines.bytes.now ≡ lines_in self.old.lines.bytes.now }
         ensures lines { DropLines self.old.lines.bytes.now self.new.lines.bytes.now (cells_of key.now) result }
     {
-        self.lines.remove(key)
+        match self.place(key) {
+            Some(k) => {
+                self.lines.erase(k);
+                true
+            }
+            None => false,
+        }
     }
 
     fn size(&self) -> Size {
-        self.lines.size()
+        let all = &*self.lines.bytes;
+        Size {
+            places: all.len() / 128,
+            rows: used_lines(all),
+        }
     }
 
     fn row(&self, k: usize) -> Option<Entry> {
-        self.lines.row(k)
+        read_line(nth_taken(self.lines.bytes, k)?)
     }
 }

@@ -11,7 +11,7 @@ ghost use Rattle.image.specs.Open.{Sizes, GoodTo, LineChecked, LinesChecked, Acc
 use crate::decode::decode;
 use crate::fault::OpeningFault;
 use crate::image::Image;
-use crate::lines::place_of;
+use crate::lines::{lines_of, place_of};
 use crate::memory::Lines;
 use kinds::kind::Kind;
 use stores::fault::StoreFault;
@@ -39,29 +39,22 @@ fn check_line<K: Kind>(
     requires before { GoodTo (RowCells signature.now.arities (K.Kind.means kind.now)) image.now k }
     ensures { LineChecked (RowCells signature.now.arities (K.Kind.means kind.now)) image.now k result }
 {
-    let shown = match decode(signature, kind, &image[k * 128..k * 128 + 128]) {
-        Ok(shown) => shown,
-        Err(field) => {
-            return Err(StoreFault::Line {
-                line: k,
-                field: field + 1,
-            });
-        }
-    };
-    let Some(_entry) = shown else {
-        return Ok(());
-    };
-    match place_of(image, k, &image[k * 128..k * 128 + 120]) {
-        Some(_) => Err(StoreFault::Again { line: k }),
-        None => Ok(()),
+    let line = &lines_of(image)[k];
+    let shown = decode(signature, kind, line).map_err(|marred| StoreFault::Line {
+        line: k,
+        field: marred.field + 1,
+    })?;
+    if shown.is_some() && place_of(image, k, &line[..120]).is_some() {
+        return Err(StoreFault::Again { line: k });
     }
+    Ok(())
 }
 
 // The lines from the top.
 fn check_lines<K: Kind>(signature: &Signature, kind: &K, image: &[u8]) -> Result<(), StoreFault>
     ensures { LinesChecked (RowCells signature.now.arities (K.Kind.means kind.now)) image.now result }
 {
-    for k in 0..image.len() / 128 {
+    for k in 0..lines_of(image).len() {
         check_line(signature, kind, image, k)?;
     }
     Ok(())

@@ -1,59 +1,51 @@
-use Rattle.std.proofs.Common.{◌≡◌, ℕ, ◌+◌, ◌-◌, ◌*◌, List, Some, None, Ok, Option, sym, refl, ◌∙◌, subst, inl, inr, arith}
-use Rattle.terms.specs.declared.cell.Cell.{Cell}
+use Rattle.std.proofs.Common.{◌≡◌, ◌+◌, [], Ok, Err, sym, refl, ap, ◌∙◌, take, subst, inl, arith, rules, tests}
+use Rattle.std.proofs.lemmas.Bool.{both_ways}
+use Rattle.std.proofs.lemmas.Result.{err_from_is_err_and}
 use Rattle.terms.specs.Proper.{RowCells}
-use Rattle.stores.specs.declared.entry.Entry.{Entry}
-use Rattle.stores.specs.Table.{holding_of}
-use Rattle.image.specs.Texts.{BadField, Decoded}
-use Rattle.image.proofs.Cutting.{bad_within}
 use Rattle.terms.proofs.Storing.{row_storable}
-use Rattle.image.proofs.Meanings.{line_is, line_part}
-use Rattle.image.proofs.Opening.{good_none, good_some, again}
+use Rattle.stores.specs.declared.fault.StoreFault.TheVariants.{Line}
+use Rattle.image.specs.Texts.{Decoded}
+use Rattle.image.proofs.Arrays.{line_of}
+use Rattle.image.proofs.Cutting.{bad_within}
+use Rattle.image.proofs.Opening.{mapped_ok, mapped_err, line_good, line_again, none_at}
 use Rattle.image.proofs.open.check_line.Goals as goal
+use Rattle.image.proofs.open.check_line.Goals.{else-is_some-via-then-is_some+else-is_some-2, else-is_some-via-else-is_some}
 
-pub overflow_add-result : goal.overflow_add-result
-overflow_add-result g c = let l = bad_within (RowCells c.args.signature.now.arities (g.K.Kind.means c.args.kind.now)) _ c.in-Err.field c.in-Err.ensures in omega arith
+pub map_err-requires : goal.map_err-requires
+map_err-requires g c m is κs s x y z =
+    let R = RowCells c.args.signature.now.arities (g.K.Kind.means c.args.kind.now) in
+    let b = bad_within R _ m.field (subst (Decoded R _) is c.decode.ensures) in omega arith
 
-pub returns-in-Err : goal.returns-in-Err
-returns-in-Err g c =
-    let xs = c.args.image.now in
-    let k = c.args.k in
-    let M = g.K.Kind.means c.args.kind.now in
+pub returns-in_err-shown : goal.returns-in_err-shown
+returns-in_err-shown g c =
+    let R = RowCells c.args.signature.now.arities (g.K.Kind.means c.args.kind.now) in
+    let at = line_of c.args.image.now c.lines_of.result.now c.lines_of.ensures.lines c.args.k [] c.requires.within in
+    let q = mapped_err c.map_err.result _ c.decode.result c.map_err.ensures.cases c.in_err-shown.field-0.0 c.in_err-shown.was in
+    let p = err_from_is_err_and c.from_residual.result c.from_residual.ensures.1 in
+    let f : c.in_err-shown.field-0.0 ≡ Line c.args.k (q.0.field + 1) = search (rules, tests) in
+    rw (p.1, p.2, f) (inl (q.0.field, refl, subst (λ s. Decoded R s (Err q.0)) at (subst (Decoded R _) q.1 c.decode.ensures)))
+
+pub returns-then-is_some-2 : goal.returns-then-is_some-2
+returns-then-is_some-2 g c =
     let sig = c.args.signature.now.arities in
-    inl (c.in-Err.field, refl, subst (λ s. BadField (RowCells sig M) s c.in-Err.field) (line_is k ((k * 128 + 128) - k * 128) xs (omega arith)) c.in-Err.ensures)
-
--- what was decoded, at the variant
-at_variant : (Row : List Cell → Type 0) (s : List ℕ) (o q : Option Entry) → o ≡ q → Decoded Row s (Ok o) → Decoded Row s (Ok q)
-at_variant Row s o q e d = subst (λ v. Decoded Row s (Ok v)) e d
-
-pub returns-in_default : goal.returns-in_default
-returns-in_default g c =
-    let xs = c.args.image.now in
-    let k = c.args.k in
     let M = g.K.Kind.means c.args.kind.now in
-    let sig = c.args.signature.now.arities in
-    let e = at_variant (RowCells sig M) _ c.in-Ok.shown None c.in_default.is c.in-Ok.ensures in
-    good_none (RowCells sig M) (row_storable M (g.met.K.Kind.sound c.args.kind.now) sig) xs k c.requires.before
-    (sym (line_is k ((k * 128 + 128) - k * 128) xs (omega arith)) ∙ e.1)
+    let R = RowCells sig M in
+    let at = line_of c.args.image.now c.lines_of.result.now c.lines_of.ensures.lines c.args.k [] c.requires.within in
+    let is = mapped_ok c.map_err.result _ c.decode.result c.map_err.ensures.cases c.in_ok-shown.shown c.in_ok-shown.was in
+    line_again R (row_storable M (g.met.K.Kind.sound c.args.kind.now) sig) c.args.image.now c.args.k c.requires.before _ (ap (take 120) at) c.in_ok-shown.shown
+    (subst (λ s. Decoded R s (Ok c.in_ok-shown.shown)) at (subst (Decoded R _) is c.decode.ensures)) (sym c.is_some.ensures ∙ c.if-is_some.true)
+    c.place_of.result c.place_of.ensures (sym c.is_some-then-is_some.ensures ∙ c.if-is_some-2.true)
 
-pub returns-in-None : goal.returns-in-None
-returns-in-None g c =
-    let xs = c.args.image.now in
-    let k = c.args.k in
-    let M = g.K.Kind.means c.args.kind.now in
+pub returns : goal.returns
+returns g c =
     let sig = c.args.signature.now.arities in
-    let e = at_variant (RowCells sig M) _ c.in-Ok.shown (Some c.in-Some._entry) c.in-Some.is c.in-Ok.ensures in
-    good_some (RowCells sig M) (row_storable M (g.met.K.Kind.sound c.args.kind.now) sig) xs k c.requires.before
-    (holding_of c.in-Some._entry) e.0 (sym (line_is k ((k * 128 + 128) - k * 128) xs (omega arith)) ∙ e.1)
-    _ (line_part k ((k * 128 + 120) - k * 128) 120 xs (omega arith) (omega arith)) c.in-None.ensures
-
-pub returns-in-Some-place_of : goal.returns-in-Some-place_of
-returns-in-Some-place_of g c =
-    let xs = c.args.image.now in
-    let k = c.args.k in
     let M = g.K.Kind.means c.args.kind.now in
-    let sig = c.args.signature.now.arities in
-    let e = at_variant (RowCells sig M) _ c.in-Ok.shown (Some c.in-Some._entry) c.in-Some.is c.in-Ok.ensures in
-    let a = again (RowCells sig M) (row_storable M (g.met.K.Kind.sound c.args.kind.now) sig) xs k c.requires.before
-    (holding_of c.in-Some._entry) e.0 (sym (line_is k ((k * 128 + 128) - k * 128) xs (omega arith)) ∙ e.1)
-    _ (line_part k ((k * 128 + 120) - k * 128) 120 xs (omega arith) (omega arith)) c.in-Some-place_of.field-0 c.in-Some-place_of.ensures in
-    inr (refl, a.0, a.1)
+    let R = RowCells sig M in
+    let at = line_of c.args.image.now c.lines_of.result.now c.lines_of.ensures.lines c.args.k [] c.requires.within in
+    let is = mapped_ok c.map_err.result _ c.decode.result c.map_err.ensures.cases c.in_ok-shown.shown c.in_ok-shown.was in
+    line_good R (row_storable M (g.met.K.Kind.sound c.args.kind.now) sig) c.args.image.now c.args.k c.requires.before _ (ap (take 120) at) c.in_ok-shown.shown
+    (subst (λ s. Decoded R s (Ok c.in_ok-shown.shown)) at (subst (Decoded R _) is c.decode.ensures))
+    (λ t. elim c.else-is_some.branch [
+      | else-is_some-via-then-is_some+else-is_some-2 w ↦ none_at _ w.place_of.result w.place_of.ensures (sym w.is_some-then-is_some.ensures ∙ w.if-is_some-2.false)
+      | else-is_some-via-else-is_some w ↦ absurd (both_ways c.is_some.result w.if-is_some.false (c.is_some.ensures ∙ t))
+    ])
