@@ -1,7 +1,8 @@
 -- A sample from the values of the classes.
-use Rattle.std.proofs.Common.{◌≡◌, ℕ, zero, suc, ◌+◌, ◌-◌, ◌<◌, ◌≤◌, min, Bool, ltb, List, [], ◌∷◌, ◌++◌, length, get_or, take, drop, replicate, MatchBool, sym, ap, ◌∙◌, subst, inl, inr, append-nil, arith}
+use Rattle.std.proofs.Common.{◌≡◌, ℕ, ◌+◌, ◌-◌, ◌<◌, ◌≤◌, min, Bool, ltb, List, [], ◌∷◌, ◌++◌, length, get_or, take, drop, replicate, MatchBool, sym, ap, ◌∙◌, subst, inl, inr, append-nil, arith}
 use Rattle.std.specs.List.{AllByRecursion}
 use Rattle.std.proofs.ByRecursion.{All-get_or, All-from_get_or}
+use Rattle.std.proofs.Math.Seq.{take-append-add}
 use Rattle.std.proofs.lemmas.List.{get_or_default, get_or_past, take-append-drop, take-append-le, take_all, drop-replicate, take-replicate}
 use Rattle.std.proofs.lemmas.Bool.{cases_lt, lt-ltb, le-ltb}
 use Rattle.kinds.specs.Meaning.{Meaning, Sound}
@@ -30,13 +31,6 @@ use Rattle.compare.proofs.Gathers.{class_one, class_all}
 use Rattle.compare.proofs.Values.{stands_here, stands_true, some_or_none, met_value, met_all}
 
 -- what was written on a blank row
-take_over : (n : ℕ) (xs ys : List Cell) → length xs ≤ n → take n (xs ++ ys) ≡ xs ++ take (n - length xs) ys
-take_over n [] ys l = let e : n - 0 ≡ n = omega arith in ap (λ (k : ℕ). take k ys) (sym e)
-take_over zero (x ∷ xs) ys l = absurd (omega arith)
-take_over (suc n) (x ∷ xs) ys l =
-    let e : suc n - suc (length xs) ≡ n - length xs = omega arith in
-    ap (λ zs. x ∷ zs) (take_over n xs ys (omega arith)) ∙ ap (λ (k : ℕ). x ∷ (xs ++ take k ys)) (sym e)
-
 pub shows : (xs behind : List Cell) (r : ℕ) → Wrote xs (replicate 12 blank) behind 0 r → Shows (record { cells = behind; more = ltb 12 r }) xs
 shows xs behind r w =
     let n : ℕ = min 12 (0 + length xs) in
@@ -50,7 +44,8 @@ shows xs behind r w =
       | inr l ↦ record {
         cells = front ∙ ap (λ zs. zs ++ replicate (12 - n) blank) (take_all 12 xs l)
             ∙ ap (λ (k : ℕ). xs ++ replicate (12 - k) blank) (let e : n ≡ length xs = omega arith in e)
-            ∙ sym (take_over 12 xs (replicate 12 blank) l ∙ ap (λ zs. xs ++ zs) (take-replicate (12 - length xs) 12 blank (omega arith)));
+            ∙ sym (ap (λ (k : ℕ). take k (xs ++ replicate 12 blank)) (let e : 12 ≡ length xs + (12 - length xs) = omega arith in e)
+            ∙ take-append-add xs (replicate 12 blank) (12 - length xs) ∙ ap (λ zs. xs ++ zs) (take-replicate (12 - length xs) 12 blank (omega arith)));
         more = subst (λ (b : Bool). MatchBool b (12 < length xs) (length xs ≤ 12)) (sym (le-ltb 12 r (omega (arith, w.count)))) l;
       }
     ]

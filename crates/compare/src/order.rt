@@ -92,7 +92,7 @@ impl Bound<'_> {
     }
 
     // Which variables are bound.
-    fn bound(&self) -> [bool; 16]
+    fn bound_variables(&self) -> [bool; 16]
         ensures { (x : ℕ) → x < 16 → slice_index_or result x false ≡ nat_lt (entry self.now.sheet.now x) (length self.now.terms.cells.now) }
     {
         // not `from_fn`: its closure would have to be one call
@@ -108,7 +108,7 @@ impl Bound<'_> {
     pub fn order(&self, left: usize) -> Option<[Option<Binding>; 16]>
         ensures { let sig = self.now.terms.signature.now.arities in let cells = self.now.terms.cells.now in let sheet = self.now.sheet.now in MatchOption result (Unsolved sig cells sheet) (λ out. Ordered sig cells sheet (replacements sig cells left out) × AllByRecursion (WithinPatterns left (length cells - left)) out) }
     {
-        let mut wait = self.bound();
+        let mut wait = self.bound_variables();
         let to_place = wait.iter().filter(|open| **open).count();
         let mut out = [None; 16];
         for k in (0..to_place).rev() {

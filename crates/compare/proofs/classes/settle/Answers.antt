@@ -8,13 +8,9 @@ use Rattle.compare.proofs.classes.settle.Goals.{in-Variable+in_ok-value-in-Varia
 
 pub returns-in_err-value-in-Variable : goal.returns-in_err-value-in-Variable
 returns-in_err-value-in-Variable g c =
-    let M = g.K.Kind.means c.args.kind.now in
-    let cells = c.args.cells.now in
-    let rs = c.args.roots.now in
-    let ks = c.args.constraints.now in
-    subst (λ (o : Option (List Cell)). MatchOption o (Unmet M cells rs ks) (λ fills. Settled M cells rs ks fills (length ks))) (sym c.from_residual.ensures)
-    (fails_class M cells rs ks c.loop-constraint.constraint-index c.in-Variable.y c.as_slice-rest.result.now
-    c.loop-constraint-test.true c.in-Variable.is (c.as_slice-rest.ensures ∙ c.gather-class.ensures) c.in_err-value-in-Variable.ensures)
+    rw c.from_residual.ensures
+    (fails_class (g.K.Kind.means c.args.kind.now) c.args.cells.now c.args.roots.now c.args.constraints.now c.loop-constraint.constraint-index c.in-Variable.y c.as_slice-rest.result.now
+    c.loop-constraint-test.true c.in-Variable.is (rw c.as_slice-rest.ensures c.gather-class.ensures) c.in_err-value-in-Variable.ensures)
 
 pub loop-constraint-preserved : goal.loop-constraint-preserved
 loop-constraint-preserved g c =
@@ -28,10 +24,10 @@ loop-constraint-preserved g c =
       | in-Variable+in_ok-value-in-Variable w ↦
           (let h = w.in_ok-value-in-Variable.ensures in
           let small : w.in-Variable.y < 16 = subst (WithinCells cells) w.in-Variable.is (c.requires.rooted (constraint_at ks i).variable (c.requires.named i c.loop-constraint-test.true)) in
-          subst (λ (fs : List Cell). Settled M cells rs ks fs (i + 1)) (sym (w.fills-is ∙ ap (set fills w.in-Variable.y) w.from.ensures))
+          rw (w.fills-is, w.from.ensures)
           (settled_class M cells rs ks fills i w.in-Variable.y w.in_ok-value-in-Variable.value.letter w.in_ok-value-in-Variable.value.code
-          w.as_slice-rest.result.now c.loop-constraint-test.true small w.in-Variable.is (w.as_slice-rest.ensures ∙ w.gather-class.ensures) h.0 h.1 c.loop-constraint.invariant))
+          w.as_slice-rest.result.now c.loop-constraint-test.true small w.in-Variable.is (rw w.as_slice-rest.ensures w.gather-class.ensures) h.0 h.1 c.loop-constraint.invariant))
       | in-Term+else-not-meets w ↦
-          subst (λ (fs : List Cell). Settled M cells rs ks fs (i + 1)) (sym w.fills-is)
+          rw w.fills-is
           (settled_term M cells rs ks fills i w.in-Term.place w.in-Term.is (w.meets.ensures.0 w.if-not-meets.false) c.loop-constraint.invariant)
     ]

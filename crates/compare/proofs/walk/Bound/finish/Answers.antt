@@ -1,6 +1,7 @@
 use Rattle.std.proofs.Common.{arith}
 use Rattle.terms.specs.Terms.{apply}
 use Rattle.unification.specs.Fronts.{part}
+use Rattle.compare.specs.Bindings.{replacements}
 use Rattle.compare.proofs.Values.{unmet}
 use Rattle.compare.proofs.Drawing.{shows, drawn}
 use Rattle.compare.proofs.walk.Bound.finish.Goals as goal
@@ -22,6 +23,6 @@ returns g c =
       c.in_ok-bindings.ensures.0,
       c.in_ok-bindings.ensures.1,
       drawn _ _ _ _ (g.met.K.Kind.sound c.args.kind.now) _ _ b.terms.good c.requires.named c.roots.ensures c.in_ok-fills.fills c.in_ok-fills.ensures
-          _ c.in_ok-bindings.ensures.0 b.terms.signature.now.nought c.requires.fine _
+          (replacements b.terms.signature.now.arities b.terms.cells.now c.args.left c.in_ok-bindings.bindings) c.in_ok-bindings.ensures.0 b.terms.signature.now.nought c.requires.fine _
           (λ σ a s f. shows (apply σ (part b.terms.signature.now.arities b.terms.cells.now 0 1)) c.write-len.new.row c.write-len.result (c.write-len.ensures.cells σ a s f)),
     )

@@ -13,22 +13,21 @@ use Rattle.std.proofs.ByRecursion.{All-set}
 
 pub loop-k-init : goal.loop-k-init
 loop-k-init c =
-    let w = c.bound-wait.result in
+    let w = c.bound_variables-wait.result in
     let l : length w ≡ 16 = omega arith in
     let n : c.count-to_place.result ≡ opens w = (let e : c.count-to_place.result ≡ count_by (λ (b : Bool). b) w = search rules in e ∙ sym (opens_counted w)) in (
       l,
       refl,
       n,
       omega (arith, n, opens_length w),
-      subst (Placed c.args.self.now.terms.signature.now.arities c.args.self.now.terms.cells.now c.args.self.now.sheet.now w) (sym (replacements_none c.args.self.now.terms.signature.now.arities c.args.self.now.terms.cells.now c.args.left 16 c.count-to_place.result))
-          (placed_none c.args.self.now.terms.signature.now.arities c.args.self.now.terms.cells.now c.args.self.now.sheet.now w l c.bound-wait.ensures),
+      rw (replacements_none c.args.self.now.terms.signature.now.arities c.args.self.now.terms.cells.now c.args.left 16 c.count-to_place.result) (placed_none _ _ _ w l c.bound_variables-wait.ensures),
       none_within c.args.left (length c.args.self.now.terms.cells.now - c.args.left) 16,
     )
 
 pub returns-in_err-leaf : goal.returns-in_err-leaf
 returns-in_err-leaf c =
     rw c.from_residual.ensures
-    (unsolved c.args.self.now.terms.signature.now.arities c.args.self.now.terms.cells.now c.args.self.now.sheet.now c.loop-k.wait c.args.self.now.terms.good c.args.self.now.straight c.loop-k.invariant.4.within c.in_err-leaf.ensures (omega arith))
+    (unsolved _ _ _ c.loop-k.wait c.args.self.now.terms.good c.args.self.now.straight c.loop-k.invariant.4.within c.in_err-leaf.ensures (omega arith))
 
 pub loop-k-preserved : goal.loop-k-preserved
 loop-k-preserved c =
@@ -53,17 +52,15 @@ loop-k-preserved c =
       length-set out (left - 1) (Some b) ∙ c.loop-k.invariant.1,
       omega (arith, opens_set w x h.chosen.is_open),
       omega arith,
-      subst (Placed sig cells c.args.self.now.sheet.now (set w x false)) (sym e)
-          (placed_more sig cells c.args.self.now.sheet.now w (replacements sig cells n (drop left out)) x c.args.self.now.terms.good c.loop-k.invariant.0 c.loop-k.invariant.4 h.chosen),
+      rw e (placed_more _ _ _ w _ x c.args.self.now.terms.good c.loop-k.invariant.0 c.loop-k.invariant.4 h.chosen),
       All-set (WithinPatterns n (length cells - n)) out (left - 1) (Some b)
-          (c.joint.ensures.small, cell_within n (c.in_ok-leaf.leaf.place + 1 - n) (length cells - n) b.term.side b.term.cell below c.joint-in-loop-k.ensures.within)
+          (c.joint.ensures.small, cell_within n _ _ b.term.side b.term.cell below c.joint-in-loop-k.ensures.within)
           c.loop-k.invariant.5,
     )
 
 pub returns : goal.returns
 returns c =
     let z : c.loop-k.k ≡ 0 = omega arith in (
-      placed_all c.args.self.now.terms.signature.now.arities c.args.self.now.terms.cells.now c.args.self.now.sheet.now c.loop-k.wait (replacements c.args.self.now.terms.signature.now.arities c.args.self.now.terms.cells.now c.args.left c.loop-k.out) (omega arith)
-          (subst (λ (m : ℕ). Placed c.args.self.now.terms.signature.now.arities c.args.self.now.terms.cells.now c.args.self.now.sheet.now c.loop-k.wait (replacements c.args.self.now.terms.signature.now.arities c.args.self.now.terms.cells.now c.args.left (drop m c.loop-k.out))) z c.loop-k.invariant.4),
+      placed_all _ _ _ c.loop-k.wait _ (omega arith) (rw z at c.loop-k.invariant.4),
       c.loop-k.invariant.5,
     )

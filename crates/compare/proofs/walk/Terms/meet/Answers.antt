@@ -4,32 +4,25 @@ use Rattle.compare.proofs.walk.Terms.meet.Goals as goal
 
 pub returns-then-x-y : goal.returns-then-x-y
 returns-then-x-y c =
-    turned c.args.self.now.signature.now.arities c.args.self.now.cells.now c.args.sheet.now _ c.args.q c.args.p 1
-    (bound_left c.args.self.now.signature.now.arities c.args.self.now.cells.now c.args.sheet.now c.args.q c.args.p c.entry_to.result c.entry_to.ensures c.args.self.now.good (omega arith) c.requires.straight
-    c.requires.right c.requires.left.0 c.if-b-eq86.true (λ _. omega arith))
+    turned _ _ _ _ _ _ _
+    (bound_left _ _ _ _ _ _ c.entry_to.ensures c.args.self.now.good (omega arith) c.requires.straight c.requires.right c.requires.left.0 c.if-b-eq86.true (λ _. omega arith))
 
 pub returns-then-y-x : goal.returns-then-y-x
 returns-then-y-x c =
-    bound_left c.args.self.now.signature.now.arities c.args.self.now.cells.now c.args.sheet.now c.args.p c.args.q c.entry_to-then-y-x.result c.entry_to-then-y-x.ensures c.args.self.now.good (omega arith) c.requires.straight
-    c.requires.left c.requires.right.0 c.if-a-eq86.true (λ _. omega arith)
+    bound_left _ _ _ _ _ _ c.entry_to-then-y-x.ensures c.args.self.now.good (omega arith) c.requires.straight c.requires.left c.requires.right.0 c.if-a-eq86.true (λ _. omega arith)
 
 pub returns-else-y-x : goal.returns-else-y-x
-returns-else-y-x c =
-    level_same c.args.self.now.signature.now.arities c.args.self.now.cells.now c.args.sheet.now c.args.p c.args.q c.args.self.now.good c.requires.left.0 c.requires.right.0 c.requires.straight
-    c.if-a-eq86.true c.if-b-eq86.true (omega arith)
+returns-else-y-x c = level_same _ _ _ _ _ c.args.self.now.good c.requires.left.0 c.requires.right.0 c.requires.straight c.if-a-eq86.true c.if-b-eq86.true (omega arith)
 
 pub returns-then-a-eq86 : goal.returns-then-a-eq86
 returns-then-a-eq86 c =
-    bound_left c.args.self.now.signature.now.arities c.args.self.now.cells.now c.args.sheet.now c.args.p c.args.q c.entry_to-then-a-eq86.result c.entry_to-then-a-eq86.ensures c.args.self.now.good (omega arith) c.requires.straight
-    c.requires.left c.requires.right.0 c.if-a-eq86.true (λ v. absurd (c.if-b-eq86.false v))
+    bound_left _ _ _ _ _ _ c.entry_to-then-a-eq86.ensures c.args.self.now.good (omega arith) c.requires.straight c.requires.left c.requires.right.0 c.if-a-eq86.true (λ v. absurd (c.if-b-eq86.false v))
 
 pub returns-then-b-eq86-2 : goal.returns-then-b-eq86-2
 returns-then-b-eq86-2 c =
-    turned c.args.self.now.signature.now.arities c.args.self.now.cells.now c.args.sheet.now _ c.args.q c.args.p 1
-    (bound_left c.args.self.now.signature.now.arities c.args.self.now.cells.now c.args.sheet.now c.args.q c.args.p c.entry_to-then-b-eq86-2.result c.entry_to-then-b-eq86-2.ensures c.args.self.now.good (omega arith) c.requires.straight
-    c.requires.right c.requires.left.0 c.if-b-eq86-2.true (λ v. absurd (c.if-a-eq86.false v)))
+    turned _ _ _ _ _ _ _
+    (bound_left _ _ _ _ _ _ c.entry_to-then-b-eq86-2.ensures c.args.self.now.good (omega arith) c.requires.straight c.requires.right c.requires.left.0 c.if-b-eq86-2.true
+    (λ v. absurd (c.if-a-eq86.false v)))
 
 pub returns : goal.returns
-returns c = λ σ a s l.
-    heads_differ c.args.self.now.signature.now.arities c.args.self.now.cells.now c.args.p c.args.q σ c.args.self.now.good c.requires.left.0 c.requires.right.0
-    c.if-a-eq86.false c.if-b-eq86-2.false (λ e f. omega (arith, c.else-a-b.either)) l
+returns c = λ σ a s l. heads_differ _ _ _ _ σ c.args.self.now.good c.requires.left.0 c.requires.right.0 c.if-a-eq86.false c.if-b-eq86-2.false (λ e f. omega (arith, c.else-a-b.either)) l

@@ -28,5 +28,5 @@ returns c =
     let z : c.loop-left.left ≡ 0 = omega arith in
     record {
       within = (omega (arith, z), omega arith);
-      rest = sym (after_none _ _) ∙ ap (λ (n : ℕ). after c.args.self.now.signature.now.arities n (drop c.loop-left.at c.args.self.now.cells.now)) (sym z) ∙ c.loop-left.invariant.4;
+      rest = sym (after_none _ _) ∙ (rw z at c.loop-left.invariant.4);
     }

@@ -2,7 +2,7 @@ use Rattle.std.proofs.Common.{◌≡◌, ℕ, false, ltb, length, get_or, set, �
 use Rattle.std.proofs.lemmas.List.{get_or-set_same, get_or-set_other}
 use Rattle.unification.specs.Sheets.{entry}
 use Rattle.compare.proofs.Readings.{bound_tells}
-use Rattle.compare.proofs.walk.Bound.bound.Goals as goal
+use Rattle.compare.proofs.walk.Bound.bound_variables.Goals as goal
 
 pub loop-x-preserved : goal.loop-x-preserved
 loop-x-preserved c =
