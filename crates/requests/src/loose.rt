@@ -35,6 +35,7 @@ fn group_in(line: &[u8]) -> Cell
 fn groups_in(heap: Global, line: &[u8]) -> Result<Vec<Cell>, AllocError>
     ensures { IfOk result (λ v. (gs : List Cell) → AllByRecursion Short gs → Alike line.now (flat_map cell_text gs) → v.items ≡ gs) }
 {
+    // a loop, since a chain would have to say which group is read of columns that show none
     let mut groups = Vec::new(heap);
     for group in trimmed(line).chunks(10) {
         groups.push(group_in(group))?;

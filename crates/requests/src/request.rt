@@ -46,7 +46,7 @@ pub enum Request {
 
 // What a request's columns hold; what is absent is blank.
 #[derive(Clone, Copy)]
-pub struct RequestLine<'a> {
+pub(crate) struct RequestLine<'a> {
     pub word: Word,
     pub first: Option<u64>,
     pub second: Option<u64>,
