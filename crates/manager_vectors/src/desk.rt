@@ -1,18 +1,15 @@
 // A new manager over a table of two places, for a list of calls.
-use compare::sample::Sample;
 use kinds::bank::ALL_KINDS;
-use ledger::entry::{PendingChange, Reservation, Right, Transaction};
 use manager::memory::Memory;
 use refusals::Fault;
 use runs::call::{Answer, Call};
-use runs::run::run;
+use sheets::fault::SheetFault;
+use sheets::running::run_calls;
 use std::alloc::AllocError;
-use terms::row::Row;
 use stores::table::Table;
-use terms::cell::{BLANK, Cell};
+use telling::memory::Rolls;
+use terms::cell::Cell;
 use terms::constraint::Constraint;
-use terms::pattern::Pattern;
-use terms::signature::Signature;
 
 // S3 V0.
 pub const ANY: [Cell; 2] = [
@@ -54,43 +51,6 @@ pub fn reserve<'a>(
     }
 }
 
-// Arrays of the rolls' sizes. No entry is read before a call has written it, so what they hold is nobody's.
-#[derive(Clone, Copy)]
-pub struct Rolls {
-    pub transactions: [Transaction; 16],
-    pub reservations: [Reservation; 64],
-    pub changes: [PendingChange; 128],
-}
-
-impl Rolls {
-    pub fn new() -> Option<Rolls> {
-        let nought = [cell(b'S', 0)];
-        let signature = Signature::new([0; 32]).ok()?;
-        let pattern = Pattern::read(&signature, &ALL_KINDS, &nought, &[]).ok()?;
-        let row = Row::new(&nought)?;
-        let transaction = Transaction {
-            number: 0,
-            planner: 0,
-        };
-        let reservation = Reservation {
-            number: 0,
-            owner: 0,
-            right: Right::Read,
-            pattern,
-        };
-        let change = PendingChange {
-            owner: 0,
-            row,
-            change: None,
-        };
-        Some(Rolls {
-            transactions: [transaction; 16],
-            reservations: [reservation; 64],
-            changes: [change; 128],
-        })
-    }
-}
-
 // The number of a refusal, or 0.
 fn refusal(answer: &Answer) -> u8 {
     match answer {
@@ -122,25 +82,10 @@ pub fn play_under(
     let Ok(mut table) = Table::new(&mut records) else {
         return Ok(Vec::new(heap));
     };
-    let mut sheet = [BLANK; 16];
-    let mut answers = vec![in heap; Answer::Done; calls.len()]?;
-    let none = Sample {
-        cells: [BLANK; 12],
-        more: false,
-    };
-    let mut samples = vec![in heap; none; calls.len()]?;
-    match run(
-        ALL_KINDS,
-        arities,
-        &mut memory,
-        &mut table,
-        &mut sheet,
-        calls,
-        answers.as_mut_slice(),
-        samples.as_mut_slice(),
-    ) {
-        Ok(_) => answers.iter().map(refusal).collect(heap),
-        Err(fault) => Ok(vec![in heap; fault.refusal().number]?),
+    match run_calls(heap, ALL_KINDS, arities, &mut memory, &mut table, calls) {
+        Ok(done) => done.answers.iter().map(refusal).collect(heap),
+        Err(SheetFault::Manager(fault)) => Ok(vec![in heap; fault.refusal().number]?),
+        Err(SheetFault::NoMemory) => Ok(Vec::new(heap)),
     }
 }
 

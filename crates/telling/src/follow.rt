@@ -12,25 +12,11 @@ use compare::sample::Sample;
 use kinds::kind::Kind;
 use manager::fault::ManagerFault;
 use runs::call::{Answer, Call};
-use runs::run::run;
+use sheets::running::{Answered, run_calls};
 use std::io;
 use stores::entry::{Record, Size};
 use stores::store::Store;
 use stores::table::Table;
-use terms::cell::BLANK;
-
-// What stands in a row buffer before its call.
-pub const NO_SAMPLE: Sample = Sample {
-    cells: [BLANK; 12],
-    more: false,
-};
-
-// The answers of a run and its row buffers, which have the samples of its conflicts.
-#[derive(Drop)]
-pub struct Answered {
-    pub answers: Vec<Answer>,
-    pub samples: Vec<Sample>,
-}
 
 // Answers the calls over a new manager and the store: an answer and a row buffer to each.
 pub fn answer<K: Kind + Drop, S: Store>(
@@ -42,22 +28,9 @@ pub fn answer<K: Kind + Drop, S: Store>(
     ensures { IfOk result (λ a. (vec_len a.answers ≡ length calls.now) × (vec_len a.samples ≡ length calls.now)) }
 {
     let mut rolls = Rolls::new().context("the model base's arities are not allowed")?;
-    let mut answers = vec![in rt.alloc(); Answer::Done; calls.len()]?;
-    let mut samples = vec![in rt.alloc(); NO_SAMPLE; calls.len()]?;
-    let mut sheet = [BLANK; 16];
-    run(
-        kind,
-        ARITIES,
-        &mut rolls.memory(),
-        store,
-        &mut sheet,
-        calls,
-        answers.as_mut_slice(),
-        samples.as_mut_slice(),
-    )
-    .ok()
-    .context("the memory is not of the rolls' sizes")?;
-    Ok(Answered { answers, samples })
+    run_calls(rt.alloc(), kind, ARITIES, &mut rolls.memory(), store, calls)
+        .ok()
+        .context("the manager is refused, or memory is wanting")
 }
 
 // The remarks before call i.

@@ -13,7 +13,7 @@ use manager::ticket::Ticket;
 use runs::call::{Answer, Call};
 use std::io;
 use stores::table::Table;
-use telling::follow::NO_SAMPLE;
+use sheets::running::NO_SAMPLE;
 use terms::cell::{BLANK, Cell};
 use terms::constraint::Constraint;
 
