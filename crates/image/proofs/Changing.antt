@@ -134,10 +134,10 @@ module _ (xs ys : List ℕ) (sound : Sound Storable xs) (q : List Cell) (k : ℕ
           long = only.long;
         }
 
-    pub put_to : (AtRow xs q k ⊎ (NoRow xs q × FirstFree xs k)) → Written xs ys q n (Ok tt)
+    put_to : (AtRow xs q k ⊎ (NoRow xs q × FirstFree xs k)) → Written xs ys q n (Ok tt)
     put_to t = ⊎_elim put_at (λ f. put_new f.0 f.1) t
 
-  pub drop_at_row : OnlyLine k blank_line xs ys → AtRow xs q k → Removed xs ys q true
+  drop_at_row : OnlyLine k blank_line xs ys → AtRow xs q k → Removed xs ys q true
   drop_at_row only at =
       let es = entries xs in
       record {
@@ -160,9 +160,17 @@ full xs sound q n none all =
     }
 
 -- the write to the part of line k
-pub line_written : (k n : ℕ) (xs ys : List ℕ) (e : Place) → n ≡ 128 → k < lines_in xs → Proper Storable e → ys ≡ text e → OnlyLine k (text e) xs (put_mid (k * 128) n xs ys)
-line_written k n xs ys e en within p is =
-    subst (λ w. OnlyLine k w xs (put_mid (k * 128) n xs ys)) is (only_line k n xs ys en within (ap length is ∙ text_length Storable idle e p))
+module _ (xs : List ℕ) (sound : Sound Storable xs) (q : List Cell) (k m : ℕ) (long : m ≡ 128) (part : List ℕ) where
+  line_written : (e : Place) → k < lines_in xs → Proper Storable e → part ≡ text e → OnlyLine k (text e) xs (put_mid (k * 128) m xs part)
+  line_written e within p is = subst (λ w. OnlyLine k w xs (put_mid (k * 128) m xs part)) is (only_line k m xs part long within (ap length is ∙ text_length Storable idle e p))
+
+  pub put_line : (fit : Storable q) (n : Count) → part ≡ shown q n.value → (AtRow xs q k ⊎ (NoRow xs q × FirstFree xs k)) → Written xs (put_mid (k * 128) m xs part) q n.value (Ok tt)
+  put_line fit n is target =
+      let within : k < lines_in xs = ⊎_elim (λ at. at.within) (λ f. f.1.within) target in
+      put_to xs (put_mid (k * 128) m xs part) sound q k fit n.value n.few (line_written (Some (q, n.value)) within (fit, n.few) is) target
+
+  pub drop_line : part ≡ blank_line → AtRow xs q k → Removed xs (put_mid (k * 128) m xs part) q true
+  drop_line is at = drop_at_row xs (put_mid (k * 128) m xs part) sound q k (line_written None at.within tt is) at
 
 pub kept : (xs : List ℕ) → Sound Storable xs → (q : List Cell) → NoRow xs q → Removed xs xs q false
 kept xs sound q none =

@@ -2,19 +2,20 @@
 use Rattle.std.proofs.Common.{◌≡◌, ℕ, zero, suc, ◌+◌, ◌*◌, ◌<◌, true, false, List, [], ◌∷◌, ◌++◌, length, get_or, take, drop, Some, None, sym, refl, ap, ◌∙◌, subst, ⊎_elim, arith}
 use Rattle.std.specs.List.{AllByRecursion}
 use Rattle.std.proofs.ByRecursion.{All-get_or, All-from_get_or}
-use Rattle.std.proofs.lemmas.List.{length-append, length-drop, take_at, drop_at, drop-drop, take-append-drop, same_lists}
+use Rattle.std.proofs.lemmas.List.{length-append, length-drop, take_at, drop_at, drop-drop, take-append-drop, same_lists, nil_from_length}
 use Rattle.std.proofs.lemmas.Bool.{both_ways}
 use Rattle.refusals.proofs.Places.{first_improper}
 use Rattle.terms.specs.declared.cell.Cell.{Cell}
 use Rattle.stores.specs.declared.fault.StoreFault.{StoreFault}
 use Rattle.stores.specs.Places.{Place, row_at, taken, hits, held, Apart}
-use Rattle.terms.specs.Rows.{Storable, same_true, same_self}
+use Rattle.terms.specs.Rows.{Storable, same_self}
 use Rattle.stores.proofs.Writes.{none_hits, apart_parts}
 use Rattle.image.specs.Texts.{Proper, text, fields, LineFields}
 use Rattle.image.specs.Meaning.{line, lines_in, meaning, entries, Sound}
 use Rattle.image.specs.Open.{Stops}
 use Rattle.image.specs.Laws.{texts, ImageOf, Exactly}
 use Rattle.image.proofs.Decoding.{text_length}
+use Rattle.image.proofs.Opening.{hit_parts}
 use Rattle.image.proofs.Meanings.{entries_length, entries_at, shows_from, meaning_from}
 
 -- line after line
@@ -40,11 +41,7 @@ line_take xs = refl
 
 -- lists of whole lines are the same where their lines are
 same_lines : (n : ℕ) (xs ys : List ℕ) → length xs ≡ n * 128 → length ys ≡ n * 128 → ((k : ℕ) → k < n → line k xs ≡ line k ys) → xs ≡ ys
-same_lines zero xs ys lx ly f = nil xs (omega arith) ∙ sym (nil ys (omega arith))
-  where
-    nil : (zs : List ℕ) → length zs ≡ 0 → zs ≡ []
-    nil [] l = refl
-    nil (z ∷ zs) l = absurd (omega arith)
+same_lines zero xs ys lx ly f = nil_from_length xs (omega arith) ∙ sym (nil_from_length ys (omega arith))
 same_lines (suc n) xs ys lx ly f =
     let dx = length-drop 128 xs in
     let dy = length-drop 128 ys in
@@ -61,12 +58,8 @@ apart_pair : (ps : List Place) (q : List Cell) (j k : ℕ) (d : Place) → Apart
 apart_pair [] q j k d a jk kl hj hk = omega arith
 apart_pair (p ∷ ps) q j zero d a jk kl hj hk = omega arith
 apart_pair (p ∷ ps) q zero (suc k) d a jk kl hj hk =
-    let h = parts p q hj in
+    let h = hit_parts p q hj in
     both_ways (hits (get_or ps k d) q) (subst (λ r. hits (get_or ps k d) r ≡ false) h.1 (none_hits ps (row_at p) k d (omega arith) ((apart_parts p ps a).0 h.0))) hk
-  where
-    parts : (o : Place) (r : List Cell) → hits o r ≡ true → (taken o ≡ true) × (row_at o ≡ r)
-    parts None r h = absurd (both_ways false refl h)
-    parts (Some x) r h = (refl, same_true x.0 r h)
 apart_pair (p ∷ ps) q (suc j) (suc k) d a jk kl hj hk = apart_pair ps q j k d (apart_parts p ps a).1 (omega arith) (omega arith) hj hk
 
 module _ (Row : List Cell → Type 0) (fit : (cs : List Cell) → Row cs → Storable cs) where

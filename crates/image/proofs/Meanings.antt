@@ -1,12 +1,12 @@
 -- What lines mean, and which line is whose.
-use Rattle.std.proofs.Common.{◌≡◌, ℕ, zero, suc, ◌+◌, ◌*◌, ◌/◌, ◌<◌, ◌≤◌, true, false, cond, List, [], ◌∷◌, ◌++◌, map, length, get_or, take, drop, set, is_some, Some, None, count_by, Option, sym, refl, ap, ◌∙◌, subst, ⊎_elim, arith}
+use Rattle.std.proofs.Common.{◌≡◌, ℕ, zero, suc, ◌+◌, ◌/◌, ◌<◌, ◌≤◌, true, false, cond, List, [], ◌∷◌, ◌++◌, map, length, get_or, take, drop, set, is_some, Some, None, count_by, Option, sym, refl, ap, ◌∙◌, subst, ⊎_elim, arith}
 use Rattle.std.specs.List.{slice_get}
 use Rattle.std.specs.Option.{option_to_list, option_map}
 use Rattle.std.specs.Int.Digits.{number_from_digits}
 use Rattle.std.specs.Str.{bytes_eq}
 use Rattle.std.proofs.lemmas.List.FromFn.{length-map-range_with_len, get_or-map-range_with_len}
 use Rattle.std.proofs.lemmas.Slice.Eq.{bytes_eq-Decides}
-use Rattle.std.proofs.lemmas.List.{take_at, drop_at, take_all, take-take, length-set, get_or-set_same, get_or-set_other, same_lists, length-take-le, length-drop}
+use Rattle.std.proofs.lemmas.List.{take_at, drop_at, take_all, length-set, get_or-set_same, get_or-set_other, same_lists}
 use Rattle.std.proofs.lemmas.Option.{slice_get-get_or}
 use Rattle.std.proofs.lemmas.List.Sums.{sum_by-cons}
 use Rattle.std.proofs.lemmas.Bool.{cases_eq, cases_Bool, cond-true, cond-false, both_ways}
@@ -23,7 +23,7 @@ use Rattle.image.specs.Lines.{Scanned, slot_text, slots, field, shown, blank_lin
 use Rattle.image.specs.Texts.{Proper, text}
 use Rattle.image.specs.Meaning.{line, lines_in, cell_in, slot_in, cells_shown, meaning, entries, Shows}
 use Rattle.image.proofs.Slots.{split, Little, little, slots_more, slots_length, front_more, take_from_slots, take_nth, agrees}
-use Rattle.image.proofs.Decoding.{CountRead, tail_in, text_is, small_in, few_in, tail_long, text_front, text_length}
+use Rattle.image.proofs.Decoding.{CountRead, tail_in, text_is, small_in, few_in, tail_long, text_front}
 
 same_bytes : (xs ys : List ℕ) → xs ≡ ys → bytes_eq xs ys ≡ true
 same_bytes xs ys e = (bytes_eq-Decides xs ys).1 e
@@ -87,9 +87,6 @@ module _ (Row : List Cell → Type 0) (fit : (cs : List Cell) → Row cs → Sto
       record { good = subst (Proper Row) (sym m) p; same = q ∙ ap text (sym m) }
 
   -- a line has a row exactly if it begins as the row's line
-  pub shows_length : (s : List ℕ) → Shows Row s → length s ≡ 128
-  shows_length s w = ap length w.same ∙ text_length Row fit (meaning s) w.good
-
   pub shows_front : (s : List ℕ) → Shows Row s → take 120 s ≡ slots 12 (row_at (meaning s))
   shows_front s w = ap (take 120) w.same ∙ text_front Row fit (meaning s) w.good 12 (omega arith)
 
@@ -146,19 +143,6 @@ entries_set xs ys k e h l m others =
     (λ s. ap (λ i. meaning (line i ys)) s ∙ m ∙ sym (ap (λ i. get_or (set (entries xs) k e) i d) s ∙ get_or-set_same (entries xs) k e d (omega arith)))
     (λ n. ap meaning (others j n) ∙ sym (get_or-set_other (entries xs) k j e d n ∙ entries_at xs j d (omega arith)))
     (cases_eq j k))
-
--- parts of a line
-pub line_part : (k n m : ℕ) (xs : List ℕ) → n ≡ m → m ≤ 128 → take n (drop (k * 128) xs) ≡ take m (line k xs)
-unfolding line
-line_part k n m xs e h = ap (λ i. take i (drop (k * 128) xs)) e ∙ sym (take-take m 128 (drop (k * 128) xs) h)
-
-pub line_is : (k n : ℕ) (xs : List ℕ) → n ≡ 128 → take n (drop (k * 128) xs) ≡ line k xs
-unfolding line
-line_is k n xs e = ap (λ m. take m (drop (k * 128) xs)) e
-
-pub line_length : (k : ℕ) (xs : List ℕ) → k < lines_in xs → length (line k xs) ≡ 128
-unfolding line
-line_length k xs h = let d = length-drop (k * 128) xs in length-take-le 128 (drop (k * 128) xs) (omega arith)
 
 pub head_is : (s : List ℕ) → take 10 s ≡ field 0 s
 unfolding field

@@ -58,7 +58,7 @@ apart_push (e ∷ es) x a n =
     let l : look (es ++ (x ∷ [])) e.0 ≡ None = look_push es x e.0 (absent (look es e.0) (not-true _ p.0)) (flip_false e.0 x.0 h.0) in
     and_from _ _ (ap (λ o. not (is_some o)) l) (apart_push es x p.1 h.1)
 
-hit_parts : (o : Place) (q : List Cell) → hits o q ≡ true → (taken o ≡ true) × (row_at o ≡ q)
+pub hit_parts : (o : Place) (q : List Cell) → hits o q ≡ true → (taken o ≡ true) × (row_at o ≡ q)
 hit_parts None q h = absurd (both_ways false refl h)
 hit_parts (Some x) q h = (refl, same_true x.0 q h)
 
@@ -97,9 +97,6 @@ module _ (Row : List Cell → Type 0) (xs : List ℕ) where
     shows = λ k h. (g k h).shows;
     apart = subst (λ ps. Apart (held ps)) (take_all (lines_in xs) (entries xs) (let l = entries_length xs in omega arith)) (apart_to (lines_in xs) (omega arith) g);
   }
-
-  pub good_more : (n : ℕ) → GoodTo Row xs n → Good Row xs n → GoodTo Row xs (n + 1)
-  good_more n g w k h = ⊎_elim (λ e. subst (Good Row xs) (sym e) w) (λ ne. g k (omega arith)) (cases_eq k n)
 
 -- rows of a kind can be kept
 pub sound_weaker : (Row : List Cell → Type 0) (fit : (cs : List Cell) → Row cs → Storable cs) (xs : List ℕ) → Sound Row xs → Sound Storable xs

@@ -16,6 +16,7 @@ pub(crate) fn encode(key: &Row, count: Count, line: &mut [u8])
     ensures { line.new ≡ shown (cells_of key.now) (count_of count) }
 {
     write_blank(line);
+    // by index: once a `chunks_exact_mut` ends, nothing is proved of the line but its length
     for (j, cell) in key.cells().iter().enumerate() {
         let _ = write_cell(*cell, &mut line[j * 10..j * 10 + 10]);
     }

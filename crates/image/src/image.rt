@@ -8,7 +8,7 @@ ghost use Rattle.image.specs.Change.{AtRow, NoRow, PutLines, DropLines};
 ghost use Rattle.image.specs.Meaning.{lines_in, entries, shown_to, FirstFree};
 ghost use Rattle.image.specs.Tested.{entries_small, entries_room};
 
-use crate::encode::encode;
+use crate::encode::{encode, write_blank_line};
 use crate::fields::read_count;
 use crate::lines::{first_blank, lines_of, nth_taken, place_of, read_line, used_lines};
 use crate::memory::Lines;
@@ -40,7 +40,7 @@ impl Image<'_> {
         let mut text = [b' '; 128];
         encode(key, NOTHING, &mut text);
         let all = &*self.lines.bytes;
-        place_of(all, all.len() / 128, &text[0..120])
+        place_of(all, lines_of(all).len(), &text[0..120])
     }
 
     // The line for a put: that of the row, or the first blank one.
@@ -84,7 +84,8 @@ impl<'a> Store for Image<'a> {
     {
         match self.place_to_put(key) {
             Some(k) => {
-                self.lines.write(k, key, count);
+                let lines = &mut self.lines;
+                encode(key, count, &mut lines.bytes[k * 128..k * 128 + 128]);
                 Ok(())
             }
             None => Err(StoreFault::Full),
@@ -99,7 +100,8 @@ impl<'a> Store for Image<'a> {
     {
         match self.place(key) {
             Some(k) => {
-                self.lines.erase(k);
+                let lines = &mut self.lines;
+                write_blank_line(&mut lines.bytes[k * 128..k * 128 + 128]);
                 true
             }
             None => false,
@@ -109,7 +111,7 @@ impl<'a> Store for Image<'a> {
     fn size(&self) -> Size {
         let all = &*self.lines.bytes;
         Size {
-            places: all.len() / 128,
+            places: lines_of(all).len(),
             rows: used_lines(all),
         }
     }

@@ -1,24 +1,27 @@
-use Rattle.std.proofs.Common.{◌/◌, refl, ap}
+use Rattle.std.proofs.Common.{◌+◌, ◌-◌, ◌*◌, ◌/◌, refl, ap, arith}
+use borrow.Rule.Slice.PartMut.{put_mid}
 use Rattle.terms.specs.Fitting.{cells_of}
 use Rattle.terms.proofs.Storing.{storable_row}
 use Rattle.image.specs.Meaning.{lines_in}
 use Rattle.image.specs.Tested.{tested_shows}
-use Rattle.image.proofs.Changing.{sound_image, put_to, full}
+use Rattle.image.proofs.Changing.{sound_image, put_line, full}
 use Rattle.image.proofs.image.ImageStore.put.Goals as goal
 
 pub invariant_of-self : goal.invariant_of-self
 invariant_of-self c =
     let t = c.args.self.now in
-    let n = c.args.count in
-    let ys = c.write.new.self.bytes.now in
-    let s = (put_to t.lines.bytes.now ys (sound_image t) (cells_of c.args.key.now) c.in-Some.k (storable_row c.args.key.now) n.value n.few c.write.ensures c.in-Some.ensures).sound in
+    let xs = t.lines.bytes.now in
+    let k = c.in-Some.k in
+    let m = (k * 128 + 128) - k * 128 in
+    let ys = put_mid (k * 128) m xs c.encode.new.line in
+    let s = (put_line xs (sound_image t) (cells_of c.args.key.now) k m (omega arith) c.encode.new.line (storable_row c.args.key.now) c.args.count c.encode.ensures c.in-Some.ensures).sound in
     record { whole = s.whole; some = s.allowed.0; few = s.allowed.1; shown = tested_shows (lines_in ys) ys s.shows; apart = s.apart }
 
 pub returns-in-Some : goal.returns-in-Some
 returns-in-Some c =
     let t = c.args.self.now in
-    let n = c.args.count in
-    let e = put_to t.lines.bytes.now c.write.new.self.bytes.now (sound_image t) (cells_of c.args.key.now) c.in-Some.k (storable_row c.args.key.now) n.value n.few c.write.ensures c.in-Some.ensures in
+    let k = c.in-Some.k in
+    let e = put_line t.lines.bytes.now (sound_image t) (cells_of c.args.key.now) k ((k * 128 + 128) - k * 128) (omega arith) c.encode.new.line (storable_row c.args.key.now) c.args.count c.encode.ensures c.in-Some.ensures in
     record { put = e.put; places = ap (λ m. m / 128) e.long; lines = e.lines }
 
 pub returns-in-None : goal.returns-in-None

@@ -8,12 +8,12 @@ use Rattle.image.proofs.Arrays.{nth_row}
 use Rattle.image.proofs.Changing.{sound_image}
 use Rattle.image.proofs.image.ImageStore.row.Goals as goal
 
-pub returns-in_err-nth_taken : goal.returns-in_err-nth_taken
-returns-in_err-nth_taken c =
+pub returns-in_err-nth_taken-clause-row : goal.returns-in_err-nth_taken-clause-row
+returns-in_err-nth_taken-clause-row c =
     let t = c.args.self.now in
     let hs = held (entries t.lines.bytes.now) in
     let h = nth_row t.lines.bytes.now (Shows Storable) (sound_image t).shows c.args.k None (ap (option_map (λ l. l.now)) (sym c.in_err-nth_taken.was) ∙ c.nth_taken.ensures) in
-    rw c.from_residual.ensures (record { row = row_rows hs c.args.k None (sym h); count = tt })
+    rw c.from_residual.ensures (row_rows hs c.args.k None (sym h))
 
 pub read_line-requires : goal.read_line-requires
 read_line-requires c =
