@@ -25,7 +25,7 @@ pub const NO_SAMPLE: Sample = Sample {
     more: false,
 };
 
-// The answers of a run and its row buffers, which have the samples of its conflicts.
+// The answers of a run and its row buffers, which have the samples of its conflicts; `run` fills a slice of each.
 #[derive(Drop)]
 pub struct Answered {
     pub answers: Vec<Answer>,
