@@ -115,6 +115,7 @@ impl fmt::Display for Allowed {
     fn fmt<W: fmt::Write>(&self, f: &mut fmt::Formatter<W>) -> fmt::Result {
         let noun = self.place.numbered();
         let Condition { form, a, b } = self.condition;
+        // the form is a letter from outside, unchecked
         match form {
             b'W' if a <= EVERY_DAY && b <= ALL_DAY => tell_hours(f, a, b),
             b'M' if a <= ALL_DAY && b == 0 => tell_classes(f, a),

@@ -2,7 +2,7 @@
 use refusals::Refusal;
 use std::fmt;
 
-// When a refusal is made.
+// When a refusal is made, by its number in the published table.
 fn reason(number: u8) -> &'static str {
     match number {
         10 => "the planner is not 1 to 16",

@@ -59,6 +59,7 @@ impl<'a> Script<'a> {
         self.call(Call::Begin { planner })
     }
 
+    // The right is a letter from outside, as a call has it.
     pub fn reserve(
         &mut self,
         transaction: u32,

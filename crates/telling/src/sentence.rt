@@ -8,7 +8,7 @@ use runs::call::{Answer, Call};
 use std::fmt;
 use terms::cell::Cell;
 
-// What a right is for.
+// What a right is for; its letter comes from outside, unchecked.
 fn purpose(right: u8) -> &'static str {
     match right {
         b'R' => "for reading",

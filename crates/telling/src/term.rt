@@ -57,6 +57,7 @@ fn tell_cell<W: fmt::Write>(
     constraints: &[Constraint],
 ) -> fmt::Result {
     let number = cell.number;
+    // a cell's letter comes from outside, unchecked
     match cell.letter {
         b'S' => tell_symbol(f, number, place),
         b'V' => tell_variable(f, number, place, constraints),
