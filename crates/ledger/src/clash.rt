@@ -32,6 +32,8 @@ impl Right {
     }
 }
 
+// Kind and signature, and the sheet, are passed apart here and below: a struct of the first two makes each clause longer, since what it refers to is
+// named with a moment; and a struct over the lent sheet, blank by its type, hides from a caller that it is its own sheet that is blank.
 // A row that fits the reservation and the request, if they collide. The patterns were read, so they are proper.
 fn clash_with<K: Kind>(
     kind: &K,
@@ -74,6 +76,7 @@ pub fn first_clash<K: Kind>(
     ensures answer { MatchOption result ((h : Reservation) → In h reservations.now → ¬ Clashing signature.now.arities (K.Kind.means kind.now) (request transaction (right_of right) (described pattern.now)) h) (FirstClash signature.now.arities (K.Kind.means kind.now) (request transaction (right_of right) (described pattern.now)) reservations.now) }
     ensures blank { Blank sheet.new }
 {
+    // a loop with the index, which the first that collides is named by; and its closure would change the sheet
     for (index, held) in reservations.iter().enumerate() {
         if let Some(sample) = clash_with(
             kind,

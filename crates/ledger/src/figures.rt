@@ -70,6 +70,7 @@ pub fn survey_store<K: Kind, S: Store>(
     ensures blank { Blank sheet.new }
 {
     let size = store.size();
+    // a store gives its rows by their numbers; no `filter`, of whose closure, which changes the sheet, nothing would be known
     let mut number: u32 = 0;
     let mut total: u64 = 0;
     for k in 0..size.rows {
@@ -131,6 +132,7 @@ pub fn survey_changes<K: Kind>(
     ensures small { (result.0 ≤ 128) × (result.1 ≤ 128 * 999999) }
     ensures blank { Blank sheet.new }
 {
+    // not `filter_map`, as above
     let mut number: u32 = 0;
     let mut total: u64 = 0;
     for change in changes {

@@ -78,6 +78,7 @@ pub fn covered<K: Kind>(
     ensures answer { Decides result (Covered signature.now.arities (K.Kind.means kind.now) transaction (cells_of row.now) changing reservations.now) }
     ensures blank { Blank sheet.new }
 {
+    // not `any`: of a sheet that its closure changes nothing is known afterwards
     for held in reservations {
         if covers(kind, signature, held, transaction, row, changing, sheet) {
             return true;

@@ -73,7 +73,7 @@ impl<T: Copy, const N: usize> UpTo<T, N> {
     }
 }
 
-// Lists are equal where their items are.
+// Lists are equal where their items are, and what lies past them does not count, as in a derive it would.
 impl<T: Copy + PartialEq, const N: usize> PartialEq for UpTo<T, N> {
     ghost eq = { λ a b. pointwise T.PartialEq.eq (items a) (items b) };
 

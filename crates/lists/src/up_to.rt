@@ -11,6 +11,7 @@ pub struct UpTo<T, const N: usize> {
     ghost few: { len ≤ N },
 }
 
+// By hand: over a ghost field of a generic struct neither is derived.
 impl<T: Copy, const N: usize> Copy for UpTo<T, N> {}
 
 impl<T: Copy, const N: usize> Clone for UpTo<T, N> {

@@ -139,6 +139,7 @@ impl<K: Kind> Manager<K> {
                 memory.changes[place] = entry;
                 Ok(())
             }
+            // not `map_err`: its closure's answer is known by a relation alone, and the proof would say both arms again
             None => match self.changes.push(memory.changes, entry) {
                 Ok(()) => Ok(()),
                 Err(_) => Err(ManagerFault::ChangesFull),

@@ -3,7 +3,8 @@ ghost use Rattle.std.specs.Prelude.{◌+◌, ◌≤◌};
 use rolls::roll::Roll;
 use terms::signature::Signature;
 
-// What a manager keeps between calls, besides the memory of its rolls.
+// What a manager keeps between calls, besides the memory of its rolls, which the caller brings to every call: so what both hold together
+// (`Well`, `Sizes`) stands in the calls' clauses, and no struct of both is made here.
 // Each commit ends a transaction, so commit numbers need no limit of their own.
 #[derive(Drop)]
 pub struct Manager<K> {

@@ -29,7 +29,7 @@ pub fn cell(letter: u8, number: u32) -> Cell {
     Cell { letter, number }
 }
 
-// Symbol 2 has two arguments and symbol 3 one.
+// Symbol 2 has two arguments and symbol 3 one. Each crate of vectors shows its own arities.
 pub fn arities() -> [u8; 32] {
     let mut arities = [0; 32];
     arities[2] = 2;
@@ -67,16 +67,19 @@ pub fn play_under(
     calls: &[Call],
 ) -> Result<Vec<u8>, AllocError> {
     let heap = rt.alloc();
-    let Some(rolls) = Rolls::new() else {
+    let Some(mut rolls) = Rolls::new() else {
         return Ok(Vec::new(heap));
     };
-    let mut transactions = rolls.transactions;
-    let mut reservations = rolls.reservations;
-    let mut pending = rolls.changes;
+    let Memory {
+        transactions,
+        reservations,
+        changes: pending,
+    } = rolls.memory();
+    let places = changes.min(pending.len());
     let mut memory = Memory {
-        transactions: &mut transactions,
-        reservations: &mut reservations,
-        changes: &mut pending[..changes.min(128)],
+        transactions,
+        reservations,
+        changes: &mut pending[..places],
     };
     let mut records = [None; 2];
     let Ok(mut table) = Table::new(&mut records) else {

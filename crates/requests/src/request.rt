@@ -7,6 +7,7 @@ use crate::word::Word;
 use terms::cell::Cell;
 use terms::constraint::Constraint;
 
+// It owns its cells, and a call of `runs` is lent them: one enum over both would carry two parameters everywhere, and still be lent arm by arm.
 #[derive(Drop)]
 pub enum Request {
     Begin {

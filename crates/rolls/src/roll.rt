@@ -3,7 +3,7 @@ ghost use Rattle.rolls.specs.Rolls.{Has, Pushed, without};
 
 use crate::entry::Owned;
 
-// The length of a roll. Its entries are the first ones of the memory; what lies past them is open.
+// The length of a roll, beside memory that is lent. Its entries are the first ones of the memory; what lies past them is open.
 #[derive(Clone, Copy)]
 pub struct Roll {
     len: usize,

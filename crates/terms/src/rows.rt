@@ -60,7 +60,7 @@ impl Row {
     }
 }
 
-// Rows are equal where their cells are.
+// Rows are equal where their cells are. Written out, as for cells: it promises that it decides.
 impl PartialEq for Row {
     ghost eq = { λ a b. cells_eq (cells_of a) (cells_of b) };
 
