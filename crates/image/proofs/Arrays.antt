@@ -1,10 +1,10 @@
 -- A line's fields and an image's lines, as arrays.
 use Rattle.std.proofs.Common.{subst, cond, ◌≡◌, ℕ, zero, suc, ◌+◌, ◌-◌, ◌*◌, ◌/◌, ◌<◌, ◌≤◌, true, false, not, Bool, List, [], ◌∷◌, map, length, get_or, take, drop, Some, None, count_by, Decides, MatchOption, Option, sym, refl, ap, ◌∙◌, arith, ◌≢◌}
 use Rattle.std.proofs.Math.Nat.{suc-mul, zero-mul}
-use Rattle.std.specs.List.{AllWithin, HoldsAt, AllByRecursion, filter, slice_get}
+use Rattle.std.specs.List.{All, AllWithin, HoldsAt, AllByRecursion, filter, slice_get}
 use Rattle.std.proofs.ByRecursion.{All-from_get_or}
 use Rattle.std.specs.Simd.{first_chunks}
-use Rattle.std.proofs.lemmas.List.{drop-drop, get_or-map, get_or-drop, get_or-take, length-map, length-drop, length-take-le, same_lists}
+use Rattle.std.proofs.lemmas.List.{drop-drop, get_or-map, get_or-drop, get_or-take, length-map, length-drop, length-take-le, take_all, same_lists}
 use Rattle.columns.specs.Columns.{blank}
 use Rattle.stores.specs.Places.{Place, taken, held}
 use Rattle.image.specs.Lines.{field, Blanks, Marked}
@@ -110,14 +110,20 @@ taken_by s false l d =
     let n : length (take 10 s) ≡ 10 = length-take-le 10 s (omega arith) in
     sym (taken_from s (λ e. absurd (let q : ◌≡◌ {A = Bool} false true = d.1 (head_is s ∙ e ∙ ap blank (sym n)) in let z : ◌≡◌ {A = ℕ} 0 1 = cc in omega arith)))
 
--- the first of the first n lines that begins with these bytes
-pub first_front : (xs front : List ℕ) (n : ℕ) (lines : List (List ℕ)) → lines ≡ first_chunks 128 (lines_in xs) xs → length lines ≡ lines_in xs → n ≤ lines_in xs → (o : Option ℕ)
-    → MatchOption o (AllWithin (λ l. take 120 l ≢ front) (take n lines) 0 (length (take n lines))) (λ i. (i < length (take n lines)) × HoldsAt (λ l. take 120 l ≡ front) (take n lines) i × AllWithin (λ l. take 120 l ≢ front) (take n lines) 0 i)
-    → MatchOption o (NoKey xs front n) (λ k. AtKey xs front n k)
-first_front xs front n lines are many few None all = λ j h e.
-    let l = length-take-le n lines (omega arith) in
-    all j [] (omega arith) (omega arith) (ap (take 120) (get_or-take n lines j [] h ∙ line_of xs lines are j [] (omega arith)) ∙ e)
-first_front xs front n lines are many few (Some i) at =
-    let l = length-take-le n lines (omega arith) in
-    let w = at.0 in
-    record { within = omega arith; here = ap (take 120) (sym (get_or-take n lines i [] (omega arith) ∙ line_of xs lines are i [] (omega arith))) ∙ at.1 [] }
+pub all_lines : (xs : List ℕ) → take (lines_in xs) (first_chunks 128 (lines_in xs) xs) ≡ first_chunks 128 (lines_in xs) xs
+all_lines xs = let l = length-first_chunks 128 (lines_in xs) xs in take_all (lines_in xs) (first_chunks 128 (lines_in xs) xs) (omega arith)
+
+-- a line, of the first n, that begins with these bytes
+pub front_at : (xs front : List ℕ) (n : ℕ) (lines : List (List ℕ)) → lines ≡ take n (first_chunks 128 (lines_in xs) xs) → n ≤ lines_in xs → (o : Option ℕ)
+    → MatchOption o (All (λ l. take 120 l ≢ front) lines) (λ k. (k < length lines) × HoldsAt (λ l. take 120 l ≡ front) lines k) → MatchOption o (NoKey xs front n) (λ k. AtKey xs front n k)
+front_at xs front n lines are few o found = go o found
+  where
+    many : length lines ≡ n
+    many = let l = length-first_chunks 128 (lines_in xs) xs in ap length are ∙ length-take-le n (first_chunks 128 (lines_in xs) xs) (omega arith)
+
+    at : (j : ℕ) → j < n → get_or lines j [] ≡ line j xs
+    at j h = ap (λ ls. get_or ls j []) are ∙ get_or-take n (first_chunks 128 (lines_in xs) xs) j [] h ∙ line_of xs (first_chunks 128 (lines_in xs) xs) refl j [] (omega arith)
+
+    go : (o : Option ℕ) → MatchOption o (All (λ l. take 120 l ≢ front) lines) (λ k. (k < length lines) × HoldsAt (λ l. take 120 l ≡ front) lines k) → MatchOption o (NoKey xs front n) (λ k. AtKey xs front n k)
+    go None none = λ j h e. let m = many in none j [] (omega arith) (ap (take 120) (at j h) ∙ e)
+    go (Some k) f = let m = many in let w = f.0 in record { within = omega arith; here = ap (take 120) (sym (at k (omega arith))) ∙ f.1 [] }

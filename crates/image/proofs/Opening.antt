@@ -1,7 +1,7 @@
 -- The lines of an image, one line more.
-use Rattle.std.proofs.Common.{◌≡◌, ℕ, zero, suc, ◌+◌, ◌<◌, ◌≤◌, Bool, true, false, cond, not, List, [], ◌∷◌, ◌++◌, length, get_or, take, is_some, Some, None, Ok, Err, MatchOption, MatchResult, Option, Result, inr, sym, refl, ap, ◌∙◌, subst, ⊎_elim, add-one, arith}
+use Rattle.std.proofs.Common.{◌≡◌, ℕ, zero, suc, ◌<◌, ◌≤◌, Bool, true, false, cond, not, List, [], ◌∷◌, ◌++◌, length, get_or, take, is_some, Some, None, Ok, Err, MatchOption, MatchResult, Option, Result, inr, sym, refl, ap, ◌∙◌, subst, ⊎_elim, add-one, arith}
 use Rattle.std.proofs.lemmas.List.{append-nil, length-take-le, get_or-take, take_more, take_all}
-use Rattle.std.proofs.lemmas.Bool.{cases_eq, cases_Bool, cond-false, both_ways, and_parts, and_from, not-true}
+use Rattle.std.proofs.lemmas.Bool.{cases_Bool, cond-false, both_ways, and_parts, and_from, not-true}
 use Rattle.std.specs.Result.{IsErrAnd}
 use Rattle.std.proofs.lemmas.Result.{err_from_is_err_and}
 use Rattle.kinds.specs.Meaning.{Meaning, Sound as KindSound}

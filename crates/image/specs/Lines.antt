@@ -41,10 +41,6 @@ pub record Marked (line : List ℕ) (from f : ℕ) : Type 0 where
   pub before : Blanks line from f
   pub here : field f line ≡ blank 10 → ⊥
 
-abbrev pub FirstMarked : List ℕ → ℕ → Option ℕ → Type 0
-FirstMarked line from None = Blanks line from 12
-FirstMarked line from (Some f) = Marked line from f
-
 -- the line begins with these cells and then with no other
 pub record Scanned (line : List ℕ) (cs : List Cell) : Type 0 where
   pub few : length cs ≤ 12

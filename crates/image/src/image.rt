@@ -39,8 +39,7 @@ impl Image<'_> {
     {
         let mut text = [b' '; 128];
         encode(key, NOTHING, &mut text);
-        let all = &*self.lines.bytes;
-        place_of(all, lines_of(all).len(), &text[0..120])
+        place_of(lines_of(self.lines.bytes), &text[0..120])
     }
 
     // The line for a put: that of the row, or the first blank one.

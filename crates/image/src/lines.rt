@@ -1,12 +1,12 @@
 // Looking through the lines of an image.
-ghost use Rattle.std.specs.Prelude.{◌≡◌, ◌≤◌, length, count_by, MatchOption};
+ghost use Rattle.std.specs.Prelude.{◌≡◌, ◌<◌, length, take, count_by, MatchOption, ◌≢◌};
 ghost use Rattle.std.specs.Simd.{first_chunks};
-ghost use Rattle.std.specs.List.{filter, slice_get};
+ghost use Rattle.std.specs.List.{All, HoldsAt, filter, slice_get};
 ghost use Rattle.std.specs.Option.{option_map};
 ghost use Rattle.stores.specs.Places.{taken};
 ghost use Rattle.terms.specs.Rows.{Storable};
 ghost use Rattle.stores.specs.Table.{holding_of};
-ghost use Rattle.image.specs.Meaning.{meaning, lines_in, entries, Shows, NoKey, AtKey, FirstFree};
+ghost use Rattle.image.specs.Meaning.{meaning, lines_in, entries, Shows, FirstFree};
 
 use crate::fields::read_count;
 use crate::scan::read_cells;
@@ -30,14 +30,11 @@ fn is_taken(line: &[u8; 128]) -> bool
     !is_blank(&line[..10])
 }
 
-// A line, of the first n, that begins with the cells of a row's line.
-pub(crate) fn place_of(image: &[u8], n: usize, front: &[u8]) -> Option<usize>
-    requires { n ≤ lines_in image.now }
-    ensures { MatchOption result (NoKey image.now front.now n) (λ k. AtKey image.now front.now n k) }
+// A line that begins with the cells of a row's line.
+pub(crate) fn place_of(lines: &[[u8; 128]], front: &[u8]) -> Option<usize>
+    ensures { MatchOption result (All (λ line. take 120 line ≢ front.now) lines.now) (λ k. (k < length lines.now) × HoldsAt (λ line. take 120 line ≡ front.now) lines.now k) }
 {
-    lines_of(image)[..n]
-        .iter()
-        .position(|line| &line[..120] == front)
+    lines.iter().position(|line| &line[..120] == front)
 }
 
 // The first blank line.

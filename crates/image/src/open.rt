@@ -39,12 +39,13 @@ fn check_line<K: Kind>(
     requires before { GoodTo (RowCells signature.now.arities (K.Kind.means kind.now)) image.now k }
     ensures { LineChecked (RowCells signature.now.arities (K.Kind.means kind.now)) image.now k result }
 {
-    let line = &lines_of(image)[k];
+    let lines = lines_of(image);
+    let line = &lines[k];
     let shown = decode(signature, kind, line).map_err(|marred| StoreFault::Line {
         line: k,
         field: marred.field + 1,
     })?;
-    if shown.is_some() && place_of(image, k, &line[..120]).is_some() {
+    if shown.is_some() && place_of(&lines[..k], &line[..120]).is_some() {
         return Err(StoreFault::Again { line: k });
     }
     Ok(())

@@ -1,7 +1,8 @@
-use Rattle.std.proofs.Common.{MatchOption, take, subst}
+use Rattle.std.proofs.Common.{sym, ◌∙◌, take, arith}
 use Rattle.terms.specs.Fitting.{cells_of}
 use Rattle.terms.proofs.Storing.{storable_row}
-use Rattle.image.specs.Meaning.{NoKey, AtKey}
+use Rattle.image.specs.Meaning.{lines_in}
+use Rattle.image.proofs.Arrays.{all_lines, front_at}
 use Rattle.image.proofs.Changing.{sound_image, row_front, placed}
 use Rattle.image.proofs.image.Image.place.Goals as goal
 
@@ -13,4 +14,4 @@ returns c =
     let fit = storable_row c.args.key.now in
     let front = take 120 c.encode.new.line in
     placed xs (sound_image t) q fit front (row_front q _ fit c.encode.ensures) c.place_of.result
-    (subst (λ n. MatchOption c.place_of.result (NoKey xs front n) (λ k. AtKey xs front n k)) c.lines_of.ensures.many c.place_of.ensures)
+    (front_at xs front (lines_in xs) c.lines_of.result.now (c.lines_of.ensures.lines ∙ sym (all_lines xs)) (omega arith) c.place_of.result c.place_of.ensures)
