@@ -1,5 +1,4 @@
-use Rattle.std.proofs.Common.{◌≡◌, ℕ, drop, sym, ap, ◌∙◌, arith}
-use Rattle.unification.specs.Fronts.{after}
+use Rattle.std.proofs.Common.{◌≡◌, sym, ◌∙◌, arith}
 use Rattle.unification.proofs.Theory.{after_none}
 use Rattle.unification.proofs.Places.{step}
 use Rattle.compare.proofs.walk.Terms.skip.Goals as goal
