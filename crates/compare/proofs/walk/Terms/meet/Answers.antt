@@ -23,4 +23,3 @@ returns-then-b-eq86-2 c =
     turned _ _ _ _ _ _ _
     (bound_left _ _ _ _ _ _ c.entry_to-then-b-eq86-2.ensures c.args.self.now.good (omega arith) c.requires.straight c.requires.right c.requires.left.0 c.if-b-eq86-2.true
     (λ v. absurd (c.if-a-eq86.false v)))
-
