@@ -1,7 +1,6 @@
-use Rattle.std.proofs.Common.{ℕ, ◌+◌, ◌<◌, List, length, set, Option, sym, ap, ◌∙◌, subst, MatchOption}
-use Rattle.terms.specs.declared.cell.Cell.{Cell}
+use Rattle.std.proofs.Common.{ℕ, ◌<◌, subst}
 use Rattle.compare.specs.Roots.{constraint_at}
-use Rattle.compare.specs.Settling.{WithinCells, Unmet, Settled}
+use Rattle.compare.specs.Settling.{WithinCells}
 use Rattle.compare.proofs.Values.{fails_class, settled_class, settled_term}
 use Rattle.compare.proofs.classes.settle.Goals as goal
 use Rattle.compare.proofs.classes.settle.Goals.{in-Variable+in_ok-value-in-Variable, in-Term+else-not-meets}

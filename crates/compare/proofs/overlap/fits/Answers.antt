@@ -1,19 +1,9 @@
 use Rattle.std.proofs.Common.{Bool, Decides, sym, subst, MatchOption}
 use Rattle.terms.specs.Fitting.{Description, described, cells_of, Fits}
-use Rattle.terms.specs.Proper.{ProperPattern}
 use Rattle.unification.specs.Pairs.{Overlap}
 use Rattle.compare.specs.Answers.{CommonPart}
-use Rattle.compare.proofs.Alone.{alone_proper, fits_told}
+use Rattle.compare.proofs.Alone.{fits_told}
 use Rattle.compare.proofs.overlap.fits.Goals as goal
-
-pub overlap-requires : goal.overlap-requires
-overlap-requires g c =
-    let sig = c.args.signature.now.arities in
-    let M = g.K.Kind.means c.args.kind.now in
-    record {
-      left = subst (ProperPattern sig M) (sym c.from-alone.ensures) (alone_proper sig M (cells_of c.args.row.now) c.requires.row);
-      right = c.requires.pattern;
-    }
 
 pub returns : goal.returns
 returns g c =

@@ -1,17 +1,9 @@
 use Rattle.std.proofs.Common.{refl, ◌∙◌, rules}
-use Rattle.compare.proofs.Findings.{small_cells, small_constraints, both, good_both, fine_both, some_cells, starts_left, starts_right, straight_blank, no_clash, few_both, named_both, told}
+use Rattle.compare.proofs.Findings.{both, good_both, fine_both, some_cells, no_clash, few_both, named_both, told}
 use Rattle.compare.proofs.overlap.overlap.Goals as goal
-
-pub join-joint-requires : goal.join-joint-requires
-join-joint-requires g c = record { cells = small_cells c.requires.right; constraints = small_constraints c.requires.right }
 
 pub invariant_of-terms : goal.invariant_of-terms
 invariant_of-terms g c = record { good = good_both (both c.requires.left c.requires.right c.join-joint.ensures c.as_slice.ensures) }
-
-pub unify-requires : goal.unify-requires
-unify-requires g c =
-    let b = both c.requires.left c.requires.right c.join-joint.ensures c.as_slice.ensures in
-    record { straight = straight_blank b _ refl; left = starts_left b; right = starts_right b }
 
 pub returns-then-not-unify : goal.returns-then-not-unify
 returns-then-not-unify g c =

@@ -2,7 +2,7 @@ use Rattle.std.proofs.Common.{◌≡◌, ℕ, ◌+◌, ◌-◌, ◌<◌, ◌∷�
 use Rattle.terms.specs.Terms.{apply}
 use Rattle.unification.specs.Fronts.{at, part}
 use Rattle.unification.proofs.Theory.{terms_none}
-use Rattle.unification.proofs.Places.{step, begins_args, part_var}
+use Rattle.unification.proofs.Places.{step, part_var}
 use Rattle.unification.proofs.Samples.{wrote_none, wrote_full, wrote_cell, wrote_head, wrote_over, wrote_then, at_fix, at_var, at_some, begins_var, var_of}
 use Rattle.compare.proofs.walk.Bound.+write.Goals as goal
 
@@ -19,15 +19,6 @@ returns-then-at-eq12 t c =
       grows = (omega arith, omega arith);
       cells = λ σ a s f. wrote_full _ c.args.row.now c.args.at (omega arith) c.if-at-eq12.true (at_some b.signature.now.arities b.cells.now c.args.i c.args.n σ a (omega arith) c.requires.here);
     }
-
-pub deref-p-requires : goal.deref-p-requires
-deref-p-requires t c = (step _ _ _ _ c.requires.here (omega arith)).within
-
-pub overflow_add-i : goal.overflow_add-i
-overflow_add-i t c =
-    let b = c.args.self.now.terms in
-    let s = step b.signature.now.arities b.cells.now c.args.i c.args.n c.requires.here (omega arith) in
-    omega (arith, s.within, b.good.few)
 
 pub write-requires : goal.write-requires
 write-requires t c =
@@ -62,13 +53,6 @@ overflow_add-n t c =
     let s = step b.signature.now.arities b.cells.now c.args.i c.args.n c.requires.here (omega arith) in
     omega (arith, s.few, rw c.if-p-i.true at c.arity-k.ensures.value, b.good.few)
 
-pub write-requires-then-p-i : goal.write-requires-then-p-i
-write-requires-then-p-i t c =
-    let b = c.args.self.now.terms in
-    let s = step b.signature.now.arities b.cells.now c.args.i c.args.n c.requires.here (omega arith) in
-    let e = rw c.if-p-i.true at c.arity-k.ensures.value in
-    (omega (arith, c.decreases), (omega arith, rw e s.begins))
-
 pub returns-then-p-i : goal.returns-then-p-i
 returns-then-p-i t c =
     let pos : 0 < c.args.n = omega arith in
@@ -79,12 +63,6 @@ returns-then-p-i t c =
           let h = at_fix b.signature.now.arities b.cells.now c.args.i c.args.n c.arity-k.result σ pos c.requires.here (rw c.if-p-i.true at c.if-c-eq86.false) (rw c.if-p-i.true at c.arity-k.ensures.value) in
           rw h (rw c.if-p-i.true at (wrote_cell (at b.cells.now c.deref-p.result) _ c.args.row.now _ c.args.at _ (omega arith) (omega arith) (c.write-then-p-i.ensures.cells σ a s f)));
     }
-
-pub write-m-requires : goal.write-m-requires
-write-m-requires t c = (
-  omega (arith, c.decreases),
-  (omega arith, begins_args _ _ _ _ c.args.self.now.terms.good c.deref-p.ensures.rooted.0 c.arity-k.ensures.value),
-)
 
 pub returns-then-m-gt12 : goal.returns-then-m-gt12
 returns-then-m-gt12 t c =
@@ -98,19 +76,6 @@ returns-then-m-gt12 t c =
           (wrote_head _ _ _ _ _ c.arity-k.result _ _ _ _ σ b.good c.deref-p.ensures c.if-c-eq86.false c.arity-k.ensures.value s (omega arith) (omega arith) (c.write-m.ensures.cells σ a s f))
           c.if-m-gt12.true (omega arith) c.requires.within);
     }
-
-pub overflow_add-i-2 : goal.overflow_add-i-2
-overflow_add-i-2 t c =
-    let b = c.args.self.now.terms in
-    let s = step b.signature.now.arities b.cells.now c.args.i c.args.n c.requires.here (omega arith) in
-    omega (arith, s.within, b.good.few)
-
-pub write-requires-2 : goal.write-requires-2
-write-requires-2 t c =
-    let b = c.args.self.now.terms in (
-      omega (arith, c.decreases, c.write-m.ensures.grows),
-      (omega arith, begins_var b.signature.now.arities b.cells.now c.args.i c.args.n (omega arith) c.requires.here (c.deref-p.ensures.moved c.if-p-i.false)),
-    )
 
 pub returns : goal.returns
 returns t c =

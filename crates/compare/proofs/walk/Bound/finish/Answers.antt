@@ -1,4 +1,3 @@
-use Rattle.std.proofs.Common.{arith}
 use Rattle.terms.specs.Terms.{apply}
 use Rattle.unification.specs.Fronts.{part}
 use Rattle.compare.specs.Bindings.{replacements}
@@ -13,9 +12,6 @@ pub returns-in_err-fills : goal.returns-in_err-fills
 returns-in_err-fills g c =
     rw c.from_residual-in_err-fills.ensures
     (λ σ a s m. unmet (g.K.Kind.means c.args.kind.now) _ _ _ _ _ c.args.self.now.terms.good c.requires.named c.roots.ensures c.in_err-fills.ensures σ s m)
-
-pub write-len-requires : goal.write-len-requires
-write-len-requires g c = record { within = omega arith; here = c.args.self.now.terms.good.whole 0 c.requires.some }
 
 pub returns : goal.returns
 returns g c =

@@ -1,10 +1,10 @@
-use Rattle.std.proofs.Common.{◌≡◌, ℕ, ◌+◌, ◌-◌, ◌≤◌, Bool, false, ◌∷◌, length, drop, set, Some, sym, refl, ap, ◌∙◌, subst, arith, rules, length-set}
+use Rattle.std.proofs.Common.{◌≡◌, ℕ, ◌+◌, ◌-◌, ◌≤◌, Bool, false, ◌∷◌, length, drop, set, Some, sym, refl, ap, ◌∙◌, arith, rules, length-set}
 use Rattle.std.specs.List.{count_by}
 use Rattle.std.proofs.lemmas.List.{drop-set}
 use Rattle.unification.specs.Fronts.{part}
 use Rattle.unification.specs.Sheets.{entry}
 use Rattle.unification.specs.Orders.{opens}
-use Rattle.unification.proofs.Lines.{Placed, placed_none, placed_more, placed_all, unsolved, opens_length, opens_set, opens_counted}
+use Rattle.unification.proofs.Lines.{placed_none, placed_more, placed_all, unsolved, opens_length, opens_set, opens_counted}
 use Rattle.compare.specs.declared.binding.Binding.{Binding}
 use Rattle.compare.specs.Bindings.{WithinPatterns, replacements}
 use Rattle.compare.proofs.Readings.{cell_within, none_within, replace, replacements_more, replacements_none}

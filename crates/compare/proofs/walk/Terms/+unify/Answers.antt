@@ -6,18 +6,6 @@ use Rattle.compare.proofs.walk.Terms.+unify.Goals as goal
 pub returns-then-n-eq0 : goal.returns-then-n-eq0
 returns-then-n-eq0 t c = none _ _ _ _ _ _ c.if-n-eq0.true c.requires.straight
 
-pub deref-p-requires : goal.deref-p-requires
-deref-p-requires t c = (step _ _ _ _ c.requires.left (omega arith)).within
-
-pub deref-q-requires : goal.deref-q-requires
-deref-q-requires t c = (step _ _ _ _ c.requires.right (omega arith)).within
-
-pub skip-u-requires : goal.skip-u-requires
-skip-u-requires t c = (step _ _ _ _ c.requires.left (omega arith)).within
-
-pub skip-v-requires : goal.skip-v-requires
-skip-v-requires t c = (step _ _ _ _ c.requires.right (omega arith)).within
-
 pub unify-requires : goal.unify-requires
 unify-requires t c =
     let sig = c.args.self.now.signature.now.arities in
@@ -41,19 +29,6 @@ overflow_add-n t c =
     let s = step sig cells c.args.i c.args.n c.requires.left pos in
     omega (arith, s.few, rw c.if-p-i.true at c.arity-k.ensures.value, c.args.self.now.good.few)
 
-pub unify-requires-then-q-j : goal.unify-requires-then-q-j
-unify-requires-then-q-j t c =
-    let sig = c.args.self.now.signature.now.arities in
-    let cells = c.args.self.now.cells.now in
-    let pos : 0 < c.args.n = omega arith in
-    let s = step sig cells c.args.i c.args.n c.requires.left pos in
-    let z = step sig cells c.args.j c.args.n c.requires.right pos in
-    let e = rw c.if-p-i.true at c.arity-k.ensures.value in
-    let f = rw c.if-q-j.true at (rw c.in-Equal.ensures.2 at c.arity-k.ensures.value) in (
-      omega (arith, c.decreases, s.within, z.within, c.args.self.now.good.few),
-      (rw c.in-Equal.ensures.0 c.requires.straight, (rw e s.begins, rw f z.begins)),
-    )
-
 pub returns-then-q-j : goal.returns-then-q-j
 returns-then-q-j t c =
     let pos : 0 < c.args.n = omega arith in
@@ -61,27 +36,11 @@ returns-then-q-j t c =
     (rw c.if-p-i.true at c.in-Equal.ensures.1) (rw (c.if-p-i.true, c.if-q-j.true) at c.in-Equal.ensures.2) (rw c.if-p-i.true at c.arity-k.ensures.value)
     (rw c.in-Equal.ensures.0 at c.unify-then-q-j.ensures)
 
-pub opened-x-requires : goal.opened-x-requires
-opened-x-requires t c = record {
-  within = ((step _ _ _ _ c.requires.left (omega arith)).within, (step _ _ _ _ c.requires.right (omega arith)).within);
-  some = λ v.
-      let e : c.deref-p.result ≡ c.args.i = c.deref-p.ensures.fixed v in
-      c.deref-q.ensures.moved (λ f. omega (arith, c.else-p-i.either));
-}
-
-pub bounds-seen-x : goal.bounds-seen-x
-bounds-seen-x t c =
-    small _ _ _ _ _ c.args.self.now.good (step _ _ _ _ c.requires.left (omega arith)).within (step _ _ _ _ c.requires.right (omega arith)).within c.opened-x.ensures
-
 pub returns-then-seen-x : goal.returns-then-seen-x
 returns-then-seen-x t c =
     let pos : 0 < c.args.n = omega arith in
     never_here _ _ _ _ _ pos _ _ c.requires.left c.requires.right
     (circle _ _ _ _ _ _ _ c.args.self.now.good (step _ _ _ _ c.requires.left pos).within (step _ _ _ _ c.requires.right pos).within c.opened-x.ensures c.if-seen-x.true)
-
-pub bounds-more-x : goal.bounds-more-x
-bounds-more-x t c =
-    small _ _ _ _ _ c.args.self.now.good (step _ _ _ _ c.requires.left (omega arith)).within (step _ _ _ _ c.requires.right (omega arith)).within c.opened-x.ensures
 
 pub unify-requires-in-Equal : goal.unify-requires-in-Equal
 unify-requires-in-Equal t c =
@@ -108,12 +67,6 @@ returns-then-not-unify t c =
     never_here _ _ _ _ _ pos _ _ c.requires.left c.requires.right
     (deep _ _ _ _ _ _ _ _ _ _ c.args.self.now.good (step _ _ _ _ c.requires.left pos).within (step _ _ _ _ c.requires.right pos).within
     c.deref-p.ensures c.deref-q.ensures c.in-Equal.ensures.1 c.in-Equal.ensures.2 c.arity-k.ensures.value c.opened-x.ensures (rw c.in-Equal.ensures.0 at c.if-not-unify.ensures))
-
-pub skip-u-requires-in-Equal : goal.skip-u-requires-in-Equal
-skip-u-requires-in-Equal t c = (step _ _ _ _ c.requires.left (omega arith)).within
-
-pub skip-v-requires-in-Equal : goal.skip-v-requires-in-Equal
-skip-v-requires-in-Equal t c = (step _ _ _ _ c.requires.right (omega arith)).within
 
 pub unify-requires-in-Equal-2 : goal.unify-requires-in-Equal-2
 unify-requires-in-Equal-2 t c =

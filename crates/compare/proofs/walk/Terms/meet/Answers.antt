@@ -1,5 +1,5 @@
 use Rattle.std.proofs.Common.{arith}
-use Rattle.unification.proofs.Places.{bound_left, turned, level_same, heads_differ}
+use Rattle.unification.proofs.Places.{bound_left, turned, level_same}
 use Rattle.compare.proofs.walk.Terms.meet.Goals as goal
 
 pub returns-then-x-y : goal.returns-then-x-y
@@ -23,6 +23,3 @@ returns-then-b-eq86-2 c =
     turned _ _ _ _ _ _ _
     (bound_left _ _ _ _ _ _ c.entry_to-then-b-eq86-2.ensures c.args.self.now.good (omega arith) c.requires.straight c.requires.right c.requires.left.0 c.if-b-eq86-2.true
     (λ v. absurd (c.if-a-eq86.false v)))
-
-pub returns : goal.returns
-returns c = λ σ a s l. heads_differ _ _ _ _ σ c.args.self.now.good c.requires.left.0 c.requires.right.0 c.if-a-eq86.false c.if-b-eq86-2.false (λ e f. omega (arith, c.else-a-b.either)) l
