@@ -9,10 +9,10 @@ use refusals::{Fault, Refusal};
 use std::{fs, io};
 use stores::count::Count;
 use stores::entry::Size;
-use terms::row::Row;
 use stores::store::Store;
 use telling::model::{ARITIES, MONDAY, count_row, hour};
 use terms::cell::Cell;
+use terms::row::Row;
 
 // A count at junction 12 on a Monday: the hour, the vehicle class, and the turn from one arm to another.
 fn count_at(of_day: u8, class: u32, from: u32, to: u32) -> [Cell; 7] {

@@ -2,10 +2,10 @@ use refusals::Fault;
 use std::test::Fail;
 use stores::count::Count;
 use stores::entry::Record;
-use terms::row::Row;
 use stores::store::Store;
 use stores::table::Table;
 use terms::cell::Cell;
+use terms::row::Row;
 
 // The row S3 Nn.
 fn row(n: u32) -> Option<Row> {

@@ -5,9 +5,9 @@ use crate::model::ARITIES;
 use kinds::number::Number;
 use ledger::entry::{PendingChange, Reservation, Right, Transaction};
 use manager::memory::Memory;
-use terms::row::Row;
 use terms::cell::Cell;
 use terms::pattern::Pattern;
+use terms::row::Row;
 use terms::signature::Signature;
 
 // What a manager is lent as its memory.

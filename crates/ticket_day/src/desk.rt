@@ -11,9 +11,9 @@ use manager::memory::Memory;
 use manager::state::Manager;
 use manager::ticket::Ticket;
 use runs::call::{Answer, Call};
+use sheets::running::NO_SAMPLE;
 use std::io;
 use stores::table::Table;
-use sheets::running::NO_SAMPLE;
 use terms::cell::{BLANK, Cell};
 use terms::constraint::Constraint;
 
