@@ -1,12 +1,13 @@
 ghost use Rattle.manager.specs.Book.{Well};
 
-use crate::desk::{Rolls, arities, cell};
+use crate::desk::{arities, cell};
 use compare::sample::Sample;
 use kinds::kind::Kind;
 use kinds::number::Number;
 use manager::fault::ManagerFault;
 use manager::memory::Memory;
 use manager::state::Manager;
+use telling::memory::Rolls;
 use terms::cell::BLANK;
 
 // Begins, reserves so often and abandons, so many times; the first fault, if there is one.
@@ -37,16 +38,8 @@ fn begin_often<K: Kind>(
 
 // What one more begin with so many reserves stops, after so many of them.
 fn last_number(times: u32, reserves: u32) -> Option<Result<(), ManagerFault>> {
-    let Rolls {
-        mut transactions,
-        mut reservations,
-        mut changes,
-    } = Rolls::new()?;
-    let mut memory = Memory {
-        transactions: &mut transactions,
-        reservations: &mut reservations,
-        changes: &mut changes,
-    };
+    let mut rolls = Rolls::new()?;
+    let mut memory = rolls.memory();
     let mut manager = Manager::new(Number, arities(), &memory).ok()?;
     begin_often(&mut manager, &mut memory, times, reserves).ok()?;
     Some(begin_often(&mut manager, &mut memory, 1, reserves))
