@@ -1,5 +1,5 @@
 -- The lines of an image, one line more.
-use Rattle.std.proofs.Common.{◌≡◌, ℕ, zero, suc, ◌<◌, ◌≤◌, Bool, true, false, cond, not, List, [], ◌∷◌, ◌++◌, length, get_or, take, is_some, Some, None, Ok, Err, MatchOption, MatchResult, Option, Result, inr, sym, refl, ap, ◌∙◌, subst, ⊎_elim, add-one, arith}
+use Rattle.std.proofs.Common.{◌≡◌, ℕ, zero, suc, ◌<◌, ◌≤◌, Bool, true, false, cond, not, List, [], ◌∷◌, ◌++◌, length, get_or, take, is_some, Some, None, Ok, Err, MatchOption, MatchResult, Option, Result, inr, sym, refl, ap, ◌∙◌, subst, ⊎_elim, add-one, arith, ◌≢◌}
 use Rattle.std.proofs.lemmas.List.{append-nil, length-take-le, get_or-take, take_more, take_all}
 use Rattle.std.proofs.lemmas.Bool.{cases_Bool, cond-false, both_ways, and_parts, and_from, not-true}
 use Rattle.std.specs.Result.{IsErrAnd}
@@ -19,6 +19,10 @@ use Rattle.image.specs.Texts.{Proper, text, Decoded}
 use Rattle.image.specs.Meaning.{line, lines_in, meaning, entries, Shows, Sound, NoKey, AtKey}
 use Rattle.image.specs.Open.{Sizes, SameRow, Good, GoodTo, LineFault, Accepted}
 use Rattle.terms.proofs.Storing.{row_storable}
+use Rattle.image.specs.declared.marred.Marred.{Marred}
+use Rattle.std.specs.List.{All, HoldsAt}
+use Rattle.std.specs.Simd.{first_chunks}
+use Rattle.image.proofs.Arrays.{line_of, front_at}
 use Rattle.image.proofs.Decoding.{text_front}
 use Rattle.image.proofs.Meanings.{hits_from, shows_front, shows_cells, entries_length, entries_at, shows_from, meaning_from}
 
@@ -153,15 +157,34 @@ module _ (Row : List Cell → Type 0) (fit : (cs : List Cell) → Row cs → Sto
         )
 
   -- by what its decoding shows, and whether an earlier line begins alike
-  module _ (front : List ℕ) (same : front ≡ take 120 (line k xs)) where
-    pub line_good : (o : Option Entry) → Decoded Row (line k xs) (Ok o) → (is_some o ≡ true → NoKey xs front k) → Good Row xs k
-    line_good None d none = good_none d.1
-    line_good (Some e) d none = good_some (holding_of e) d.0 d.1 front same (none refl)
+  module _ (lines : List (List ℕ)) (are : lines ≡ first_chunks 128 (lines_in xs) xs) (within : k < lines_in xs) where
+    here : get_or lines k [] ≡ line k xs
+    here = line_of xs lines are k [] within
 
-    pub line_again : (o : Option Entry) → Decoded Row (line k xs) (Ok o) → is_some o ≡ true → (a : Option ℕ) → MatchOption a (NoKey xs front k) (λ j. AtKey xs front k j) → is_some a ≡ true → LineFault Row xs k (Again k)
-    line_again None d t a h i = absurd (both_ways false refl t)
-    line_again (Some e) d t None h i = absurd (both_ways false refl i)
-    line_again (Some e) d t (Some j) h i = let a = again (holding_of e) d.0 d.1 front same j h in inr (refl, a.0, a.1)
+    pub decoded : (r q : Result (Option Entry) Marred) → r ≡ q → Decoded Row (get_or lines k []) r → Decoded Row (line k xs) q
+    decoded r q e d = subst (λ s. Decoded Row s q) here (subst (Decoded Row (get_or lines k [])) e d)
+
+    abbrev Earlier : Option ℕ → Type 0
+    Earlier a = MatchOption a (All (λ l. take 120 l ≢ take 120 (get_or lines k [])) (take k lines)) (λ j. (j < length (take k lines)) × HoldsAt (λ l. take 120 l ≡ take 120 (get_or lines k [])) (take k lines) j)
+
+    looked : (a : Option ℕ) → Earlier a → MatchOption a (NoKey xs (take 120 (get_or lines k [])) k) (λ j. AtKey xs (take 120 (get_or lines k [])) k j)
+    looked a h = front_at xs (take 120 (get_or lines k [])) k (take k lines) (ap (take k) are) (omega arith) a h
+
+    module _ (r : Result (Option Entry) Marred) (d : Decoded Row (get_or lines k []) r) where
+      pub line_good : (o : Option Entry) → r ≡ Ok o → (is_some o ≡ true → (a : Option ℕ) × Earlier a × (is_some a ≡ false)) → Good Row xs k
+      line_good o e none = go o (decoded r (Ok o) e d) none
+        where
+          go : (o : Option Entry) → Decoded Row (line k xs) (Ok o) → (is_some o ≡ true → (a : Option ℕ) × Earlier a × (is_some a ≡ false)) → Good Row xs k
+          go None d none = good_none d.1
+          go (Some e) d none = let n = none refl in good_some (holding_of e) d.0 d.1 _ (ap (take 120) here) (none_at _ n.0 (looked n.0 n.1) n.2)
+
+      pub line_again : (o : Option Entry) → r ≡ Ok o → is_some o ≡ true → (a : Option ℕ) → Earlier a → is_some a ≡ true → LineFault Row xs k (Again k)
+      line_again o e t a h i = go o (decoded r (Ok o) e d) t a (looked a h) i
+        where
+          go : (o : Option Entry) → Decoded Row (line k xs) (Ok o) → is_some o ≡ true → (a : Option ℕ) → MatchOption a (NoKey xs (take 120 (get_or lines k [])) k) (λ j. AtKey xs (take 120 (get_or lines k [])) k j) → is_some a ≡ true → LineFault Row xs k (Again k)
+          go None d t a h i = absurd (both_ways false refl t)
+          go (Some e) d t None h i = absurd (both_ways false refl i)
+          go (Some e) d t (Some j) h i = let a = again (holding_of e) d.0 d.1 _ (ap (take 120) here) j h in inr (refl, a.0, a.1)
 
 pub accepted : (sig ns : List ℕ) (M : Meaning) → KindSound M → (xs : List ℕ) → sig ≡ ns → Arities ns → Sizes xs → GoodTo (RowCells sig M) xs (lines_in xs) → Accepted ns M xs xs
 accepted sig ns M sound xs e a z g =

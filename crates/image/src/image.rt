@@ -83,6 +83,7 @@ impl<'a> Store for Image<'a> {
     {
         match self.place_to_put(key) {
             Some(k) => {
+                // the part itself is lent: nothing is said of what a slice ends as after `as_chunks_mut`
                 let lines = &mut self.lines;
                 encode(key, count, &mut lines.bytes[k * 128..k * 128 + 128]);
                 Ok(())
@@ -99,6 +100,7 @@ impl<'a> Store for Image<'a> {
     {
         match self.place(key) {
             Some(k) => {
+                // the part itself, as for a put
                 let lines = &mut self.lines;
                 write_blank_line(&mut lines.bytes[k * 128..k * 128 + 128]);
                 true

@@ -55,6 +55,7 @@ fn check_line<K: Kind>(
 fn check_lines<K: Kind>(signature: &Signature, kind: &K, image: &[u8]) -> Result<(), StoreFault>
     ensures { LinesChecked (RowCells signature.now.arities (K.Kind.means kind.now)) image.now result }
 {
+    // by number: a line's check looks among the lines before it
     for k in 0..lines_of(image).len() {
         check_line(signature, kind, image, k)?;
     }
