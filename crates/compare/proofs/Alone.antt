@@ -1,37 +1,17 @@
 -- A row as a pattern without variables.
-use Rattle.std.proofs.Common.{◌≡◌, ℕ, List, [], get_or, is_some, Some, None, Decides, Option, refl, subst, inl, inr, arith, MatchOption}
-use Rattle.std.proofs.ByRecursion.{All-weaker}
+use Rattle.std.proofs.Common.{◌≡◌, ℕ, List, [], get_or, is_some, Some, None, Decides, Option, refl, subst, MatchOption}
 use Rattle.std.proofs.lemmas.Bool.{false≢true}
 use Rattle.kinds.specs.Meaning.{Meaning}
 use Rattle.terms.specs.declared.cell.Cell.{Cell}
-use Rattle.terms.specs.Terms.{Fine}
 use Rattle.terms.specs.Fitting.{Description, Fits}
-use Rattle.terms.specs.Proper.{RowCells, ProperPattern}
+use Rattle.terms.specs.Proper.{RowCells}
 use Rattle.unification.specs.Pairs.{Overlap}
-use Rattle.unification.proofs.Theory.{var_or}
-use Rattle.unification.proofs.Cells.{fine_var, fine_other}
 use Rattle.unification.proofs.Fitting.{row_fits, only_row}
 use Rattle.compare.specs.declared.sample.Common.{Common}
 use Rattle.compare.specs.Answers.{CommonPart}
 
 abbrev pub alone : List Cell → Description
 alone row = record { cells = row; constraints = [] }
-
-pub alone_proper : (sig : List ℕ) (M : Meaning) (row : List Cell) → RowCells sig M row → ProperPattern sig M (alone row)
-alone_proper sig M row h = record {
-  cells = record {
-    term = record {
-      whole = h.term.whole;
-      starts = h.term.starts;
-      fine = All-weaker (Fine M 0) (Fine M 8) (λ c f. elim (var_or c) [
-        | inl v ↦ absurd (let l = fine_var M 0 c f v in omega arith)
-        | inr v ↦ fine_other M 0 8 c f v
-      ]) row h.term.fine;
-    };
-    few = let l = h.few in omega arith;
-  };
-  constraints = record { few = omega arith; each = tt };
-}
 
 -- a row fits a pattern exactly where the two overlap
 pub fits_told : (sig : List ℕ) (M : Meaning) (row : List Cell) (p : Description) → get_or sig 0 0 ≡ 0 → RowCells sig M row → (o : Option Common)

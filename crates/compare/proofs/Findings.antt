@@ -1,7 +1,7 @@
 -- What the comparison of two patterns on a sheet says of the rows that fit them.
-use Rattle.std.proofs.Common.{◌≡◌, ℕ, ◌-◌, ◌<◌, ◌≤◌, false, List, map, length, drop, replicate, Some, None, Option, sym, ap, ◌∙◌, subst, subst₂, arith, MatchOption}
+use Rattle.std.proofs.Common.{◌≡◌, ℕ, ◌-◌, ◌<◌, ◌≤◌, false, List, map, length, replicate, Some, None, Option, sym, ap, ◌∙◌, subst, subst₂, arith, MatchOption}
 use Rattle.std.specs.List.{AllByRecursion}
-use Rattle.std.proofs.ByRecursion.{All-get_or, All-weaker}
+use Rattle.std.proofs.ByRecursion.{All-get_or}
 use Rattle.std.proofs.lemmas.List.{length-append, length-map}
 use Rattle.lists.specs.Lists.{items}
 use Rattle.kinds.specs.Meaning.{Meaning}
@@ -9,16 +9,15 @@ use Rattle.terms.specs.declared.cell.Cell.{Cell}
 use Rattle.terms.specs.declared.constraint.Constraint.{Constraint}
 use Rattle.terms.specs.Terms.{Fine, Subst, apply}
 use Rattle.terms.specs.Fitting.{Description, Satisfies, Fits}
-use Rattle.terms.specs.Proper.{Constrains, ProperPattern}
-use Rattle.unification.specs.Fronts.{Begins, part}
+use Rattle.terms.specs.Proper.{ProperPattern}
+use Rattle.unification.specs.Fronts.{part}
 use Rattle.unification.specs.Unifiers.{MostGeneral, sequence}
-use Rattle.unification.specs.Sheets.{Good, Blank, Sol, Straight, Merged, Clash}
+use Rattle.unification.specs.Sheets.{Good, Blank, Sol, Merged, Clash}
 use Rattle.unification.specs.Orders.{Ordered}
 use Rattle.unification.specs.Pairs.{shifted, shifted_constraint, pair, both_constraints, Overlap}
 use Rattle.unification.specs.Shares.{Shared, LeastChoice}
 use Rattle.unification.proofs.Theory.{apply_comp, apply_ext}
-use Rattle.unification.proofs.Cells.{fine_var}
-use Rattle.unification.proofs.Pairs.{Usable, usable, good, inside_left, inside_right, levels, unlevels, blank_sol, blank_straight, clashed, found, part_left, pair_fine, pair_named}
+use Rattle.unification.proofs.Pairs.{Usable, usable, good, inside_left, levels, unlevels, blank_sol, clashed, found, part_left, pair_fine, pair_named}
 use Rattle.unification.proofs.Fitting.{shared, fits_left, fits_right}
 use Rattle.compare.specs.declared.join.Joint.{Joint}
 use Rattle.compare.specs.declared.sample.Common.{Common}
@@ -27,13 +26,6 @@ use Rattle.compare.specs.Bindings.{WithinPatterns, replacements, unifier}
 use Rattle.compare.specs.Joints.{Joined}
 use Rattle.compare.specs.Roots.{constraint_at}
 use Rattle.compare.specs.Answers.{Shows, Sampled, CommonPart, Unsampled, Drawn}
-
--- what a pattern's cells and constraints have that can be shifted
-pub small_cells : {sig : List ℕ} {M : Meaning} {p : Description} → ProperPattern sig M p → AllByRecursion (λ c. c.letter ≡ 86 → c.number < 8) p.cells
-small_cells {M = M} {p = p} h = All-weaker (Fine M 8) (λ c. c.letter ≡ 86 → c.number < 8) (λ c f. fine_var M 8 c f) p.cells h.cells.term.fine
-
-pub small_constraints : {sig : List ℕ} {M : Meaning} {p : Description} → ProperPattern sig M p → AllByRecursion (λ k. k.variable < 8) p.constraints
-small_constraints {M = M} {p = p} h = All-weaker (Constrains M) (λ k. k.variable < 8) (λ k f. f.0) p.constraints h.constraints.each
 
 -- the cells are those of the two patterns, n of them the left one's
 pub record Both (sig : List ℕ) (M : Meaning) (left right : Description) (cells : List Cell) (n : ℕ) : Type 0 where
@@ -61,15 +53,6 @@ module _ {sig : List ℕ} {M : Meaning} {left right : Description} {cells : List
 
   pub some_cells : 0 < length cells
   some_cells = inside_left sig left.cells right.cells cells use_left use_right two.is
-
-  pub starts_left : Begins sig 1 cells
-  starts_left = good_both.whole 0 some_cells
-
-  pub starts_right : Begins sig 1 (drop n cells)
-  starts_right = subst (λ (k : ℕ). Begins sig 1 (drop k cells)) (sym two.at_n) (good_both.whole (length left.cells) (inside_right sig left.cells right.cells cells use_left use_right two.is))
-
-  pub straight_blank : (sheet : List Cell) → Blank sheet → Straight cells sheet
-  straight_blank = blank_straight sig left.cells right.cells cells use_left use_right two.is
 
   -- what is left of the cells is the right pattern's
   right_cells : length cells - n ≡ length right.cells

@@ -1,6 +1,5 @@
 -- What entries and bindings read as.
-use Rattle.std.proofs.Common.{◌≡◌, ℕ, zero, suc, ◌<◌, ◌≤◌, ltb, List, [], ◌∷◌, drop, replicate, is_some, Some, None, Option, sym, refl, ap, ◌∙◌, arith, MatchOption}
-use Rattle.std.proofs.lemmas.Bool.{lt-ltb, le-ltb}
+use Rattle.std.proofs.Common.{◌≡◌, ℕ, zero, suc, ◌≤◌, List, [], ◌∷◌, drop, replicate, Some, None, Option, refl, ap, ◌∙◌, arith}
 use Rattle.terms.specs.declared.cell.Cell.{Cell}
 use Rattle.unification.specs.Fronts.{part}
 use Rattle.unification.specs.Unifiers.{Replacement}
@@ -9,11 +8,6 @@ use Rattle.compare.specs.declared.binding.Side.{Side}
 use Rattle.compare.specs.declared.binding.Side.TheVariants.{Left, Right}
 use Rattle.compare.specs.Bindings.{joint, place_of, CellWithin, WithinPatterns, replacements}
 use Rattle.std.specs.List.{AllByRecursion}
-
--- a variable is bound exactly where its entry is a place among the cells
-pub bound_tells : (o : Option ℕ) (e n : ℕ) → MatchOption o (n ≤ e) (λ p. (p ≡ e) × (p < n)) → is_some o ≡ ltb e n
-bound_tells None e n h = sym (le-ltb e n h)
-bound_tells (Some p) e n h = sym (lt-ltb e n (omega (arith, h)))
 
 abbrev pub replace : ℕ → List Cell → Replacement
 replace x t = record { name = x; term = t }
