@@ -67,10 +67,8 @@ fn gather(constraints: &[Constraint], roots: &[Root; 16], y: usize) -> UpTo<Cond
 fn meets<K: Kind>(kind: &K, condition: Condition, cell: Cell) -> bool
     ensures { Decides result (Met (K.Kind.means kind.now) condition cell.letter cell.number) }
 {
-    match (kind.letter(condition), kind.next(condition, cell.number)) {
-        (Some(letter), Some(code)) => letter == cell.letter && code == cell.number,
-        _ => false,
-    }
+    kind.letter(condition) == Some(cell.letter)
+        && kind.next(condition, cell.number) == Some(cell.number)
 }
 
 // For each free variable the smallest value that meets the constraints on its class, or S0; none if nothing meets all.

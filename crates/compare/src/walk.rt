@@ -57,6 +57,7 @@ impl Bound<'_> {
     {
         let found = self.sheet[x];
         let place = found.number as usize;
+        // not `then_some`: the check then no longer finds that the cast fits
         if found.letter != b' ' && place < self.terms.cells.len() {
             Some(place)
         } else {
@@ -71,6 +72,7 @@ impl Bound<'_> {
     {
         let cells = self.terms.cells;
         let mut at = i;
+        // each step reads the sheet anew, and ends by the chain's length, which no iterator of the library gives
         while cells[at].letter == b'V' {
             let Some(place) = self.place(cells[at].number as usize) else {
                 return at;

@@ -46,10 +46,7 @@ impl Image<'_> {
     fn place_to_put(&self, key: &Row) -> Option<usize>
         ensures { MatchOption result (NoRow self.now.lines.bytes.now (cells_of key.now) × (count_by taken (entries self.now.lines.bytes.now) ≡ length (entries self.now.lines.bytes.now))) (λ k. AtRow self.now.lines.bytes.now (cells_of key.now) k ⊎ (NoRow self.now.lines.bytes.now (cells_of key.now) × FirstFree self.now.lines.bytes.now k)) }
     {
-        match self.place(key) {
-            Some(k) => Some(k),
-            None => first_blank(self.lines.bytes),
-        }
+        self.place(key).or_else(|| first_blank(self.lines.bytes))
     }
 }
 
@@ -81,15 +78,11 @@ impl<'a> Store for Image<'a> {
         ensures places { lines_in self.new.lines.bytes.now ≡ lines_in self.old.lines.bytes.now }
         ensures lines { PutLines self.old.lines.bytes.now self.new.lines.bytes.now (cells_of key.now) (count_of count) result }
     {
-        match self.place_to_put(key) {
-            Some(k) => {
-                // the part itself is lent: nothing is said of what a slice ends as after `as_chunks_mut`
-                let lines = &mut self.lines;
-                encode(key, count, &mut lines.bytes[k * 128..k * 128 + 128]);
-                Ok(())
-            }
-            None => Err(StoreFault::Full),
-        }
+        let k = self.place_to_put(key).ok_or(StoreFault::Full)?;
+        // the part itself is lent: nothing is said of what a slice ends as after `as_chunks_mut`
+        let lines = &mut self.lines;
+        encode(key, count, &mut lines.bytes[k * 128..k * 128 + 128]);
+        Ok(())
     }
 
     // The row's line is blanked, and no other.

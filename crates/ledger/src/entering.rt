@@ -49,10 +49,8 @@ fn enter_absence<S: Store>(store: &mut S, change: &PendingChange, transaction: u
     ensures map { Same (S.Store.means store.new) (entered decided (chosen true transaction (pending_of change.now ∷ [])) (S.Store.means store.old)) }
     ensures places { S.Store.places store.new ≡ S.Store.places store.old }
 {
-    if change.owner == transaction {
-        if let None = change.change {
-            store.remove(&change.row);
-        }
+    if change.owner == transaction && change.change.is_none() {
+        store.remove(&change.row);
     }
 }
 

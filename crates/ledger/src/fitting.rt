@@ -29,6 +29,7 @@ pub fn fits_key<K: Kind>(
     ensures answer { Decides result (Fits signature.now.arities (K.Kind.means kind.now) (cells_of key.now) (described pattern.now)) }
     ensures blank { Blank sheet.new }
 {
+    // a `match`, since a closure that changes the sheet says nothing of it afterwards
     match Row::read(signature, kind, key.cells()) {
         Ok(row) => fits(kind, signature, &row, pattern, sheet),
         Err(_) => false,
@@ -51,15 +52,9 @@ fn covers<K: Kind>(
     ensures answer { Decides result (Covers signature.now.arities (K.Kind.means kind.now) transaction (cells_of row.now) changing held.now) }
     ensures blank { Blank sheet.new }
 {
-    if held.owner != transaction {
-        return false;
-    }
-    if changing {
-        if !held.right.writes() {
-            return false;
-        }
-    }
-    fits(kind, signature, row, &held.pattern, sheet)
+    held.owner == transaction
+        && (!changing || held.right.writes())
+        && fits(kind, signature, row, &held.pattern, sheet)
 }
 
 // Whether one of the reservations does.

@@ -82,6 +82,7 @@ impl<K: Kind> Manager<K> {
         requires { Sizes memory.now }
         ensures { option_map count_of result ≡ own_map transaction (book_of self.now memory.now) (S.Store.means store.now) (cells_of row.now) }
     {
+        // the own change's Option is passed on as it is, as the project asks
         match change_for(self.changes.entries(memory.changes), transaction, row) {
             Some(change) => change,
             None => store.find(row),
@@ -190,9 +191,7 @@ impl<K: Kind> Manager<K> {
     {
         *sheet = [BLANK; 16];
         let row = self.read_row(memory, transaction, cells)?;
-        let Some(count) = Count::new(count) else {
-            return Err(ManagerFault::Count);
-        };
+        let count = Count::new(count).ok_or(ManagerFault::Count)?;
         self.enter(memory, transaction, &row, Some(count), sheet)
     }
 

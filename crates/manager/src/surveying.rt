@@ -84,9 +84,9 @@ impl<K: Kind> Manager<K> {
         *sheet = [BLANK; 16];
         check_sizes(memory)?;
         self.check_open(memory, transaction)?;
-        match self.own_pattern(memory, transaction, reservation) {
-            None => Err(ManagerFault::NotOwn),
-            Some(pattern) => Ok(self.figures(memory, store, transaction, &pattern, sheet)),
-        }
+        let pattern = self
+            .own_pattern(memory, transaction, reservation)
+            .ok_or(ManagerFault::NotOwn)?;
+        Ok(self.figures(memory, store, transaction, &pattern, sheet))
     }
 }

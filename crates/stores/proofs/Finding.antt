@@ -1,7 +1,9 @@
 -- The first record that passes a test, and the records in use.
-use Rattle.std.proofs.Common.{◌≡◌, ℕ, ◌<◌, zero, suc, ◌+◌, Bool, true, false, cond, not, replicate, count_by, List, [], ◌∷◌, length, get_or, map, Some, None, MatchOption, Option, sym, refl, ap, ◌∙◌, arith}
+use Rattle.std.proofs.Common.{◌≡◌, ℕ, ◌<◌, zero, suc, ◌+◌, Bool, true, false, cond, not, replicate, count_by, List, [], ◌∷◌, length, get_or, map, Some, None, Err, MatchOption, Option, sym, refl, ap, subst, ◌∙◌, arith}
 use Rattle.std.specs.List.{position, filter_map, slice_get}
-use Rattle.std.specs.Option.{option_map}
+use Rattle.std.specs.Option.{option_map, ok_or}
+use Rattle.std.specs.Result.{IfErr}
+use Rattle.std.proofs.lemmas.Result.{IfErr-at_err}
 use Rattle.std.proofs.lemmas.List.{get_or-map, length-map}
 use Rattle.std.proofs.lemmas.Option.{slice_get-map}
 use Rattle.std.proofs.lemmas.List.Sums.{sum_by-cons}
@@ -70,3 +72,14 @@ count_found rs q k r l at before e =
 -- where no record has the row
 pub count_missing : (rs : List Record) (q : List Cell) → NoHit (contents rs) q (length rs) → look (held (contents rs)) q ≡ None
 count_missing rs q none = none_find (contents rs) q (λ j d l. none j d (omega (arith, l, length-map rs place_of)))
+
+-- what is said of an Option, once it is known which it is
+pub when_some : {A : Type 0} (N : Type 0) (S : A → Type 0) {o : Option A} {a : A} → o ≡ Some a → MatchOption o N S → S a
+when_some N S e m = subst (λ x. MatchOption x N S) e m
+
+pub when_none : {A : Type 0} (N : Type 0) (S : A → Type 0) {o : Option A} → o ≡ None → MatchOption o N S → N
+when_none N S e m = subst (λ x. MatchOption x N S) e m
+
+-- the error that an absent value becomes
+pub none_err : {A E : Type 0} {o : Option A} {e y : E} → Err y ≡ ok_or o e → o ≡ None → y ≡ e
+none_err {e = e} v n = IfErr-at_err (λ x. x ≡ e) (sym v) (subst (λ x. IfErr (ok_or x e) (λ z. z ≡ e)) (sym n) refl)

@@ -1,4 +1,4 @@
 mod Changes
 pub mod Writes
 pub mod Puts
-mod Finding
+pub mod Finding

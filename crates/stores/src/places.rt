@@ -48,6 +48,7 @@ pub(crate) fn free_place(records: &[Record]) -> Option<usize>
 pub(crate) fn place_for(records: &[Record], key: &Row) -> Option<usize>
     ensures { MatchOption result (NoHit (contents records.now) (cells_of key.now) (length records.now) × (count_by taken (contents records.now) ≡ length records.now)) (PutPlace records.now (cells_of key.now)) }
 {
+    // not `or_else`: the checker's own search breaks down at it here
     match place_of(records, key) {
         Some(place) => Some(place),
         None => free_place(records),

@@ -82,13 +82,9 @@ impl<'a> Store for Table<'a> {
 
     fn put(&mut self, key: &Row, count: Count) -> Result<(), StoreFault> {
         let entry = Entry { key: *key, count };
-        match self.place_to_put(key) {
-            Some(k) => {
-                self.records[k] = Some(entry);
-                Ok(())
-            }
-            None => Err(StoreFault::Full),
-        }
+        let k = self.place_to_put(key).ok_or(StoreFault::Full)?;
+        self.records[k] = Some(entry);
+        Ok(())
     }
 
     fn remove(&mut self, key: &Row) -> bool {

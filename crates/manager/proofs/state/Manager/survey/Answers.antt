@@ -2,14 +2,15 @@ use Rattle.std.proofs.Common.{sym, subst}
 use Rattle.maps.specs.Maps.{Figures}
 use Rattle.terms.specs.declared.pattern.Pattern.{Pattern}
 use Rattle.terms.specs.Fitting.{Fits, described}
+use Rattle.ledger.specs.Counting.{Owns}
 use Rattle.manager.specs.Book.{book_of}
 use Rattle.manager.specs.Ending.{own_map}
 use Rattle.manager.proofs.state.Manager.survey.Goals as goal
 
-pub returns-in-Some : goal.returns-in-Some
-returns-in-Some g c =
+pub returns : goal.returns
+returns g c =
     let m = c.args.self.now in
-    let o = c.in-Some.ensures in
+    let o = subst (Owns c.args.transaction c.args.reservation (book_of m c.args.memory.now).reservations) c.in_ok-pattern.ensures.ok_part c.own_pattern.ensures in
     record {
       answers = (
         (c.in_ok-check_sizes.ensures, (c.in_ok-check_open.ensures, ((o.0, o.1, o.2), tt))),
