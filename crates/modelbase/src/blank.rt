@@ -17,11 +17,7 @@ impl Lines {
     pub fn new(count: usize) -> Option<Lines>
         ensures { MatchOption result ((1 ≤ count) × (count ≤ 4096) → ⊥) (λ l. l.count ≡ count) }
     {
-        // no `then_some`: it would make the lines before the test
-        if count == 0 || count > 4096 {
-            return None;
-        }
-        Some(Lines { count })
+        (1 <= count && count <= 4096).then(|| Lines { count })
     }
 
     pub fn count(self) -> usize

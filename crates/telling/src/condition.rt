@@ -8,7 +8,7 @@ use std::cmp::Ordering;
 use std::fmt;
 
 // A day of the week, Monday being 0.
-pub fn day_name(day: u32) -> &'static str {
+fn day_name(day: u32) -> &'static str {
     Day::numbered(day).map_or("no day", Day::name)
 }
 
