@@ -17,7 +17,11 @@ impl Lines {
     pub fn new(count: usize) -> Option<Lines>
         ensures { MatchOption result ((1 ≤ count) × (count ≤ 4096) → ⊥) (λ l. l.count ≡ count) }
     {
-        (1 <= count && count <= 4096).then(|| Lines { count })
+        // no `then_some`, which would make the lines before the test, and no `then`, whose closure has to state the test again as its clause
+        if count == 0 || count > 4096 {
+            return None;
+        }
+        Some(Lines { count })
     }
 
     pub fn count(self) -> usize
