@@ -84,6 +84,7 @@ fn accept(rt: &HostRuntime, pattern: &Pattern) -> anyhow::Result<()> {
     for constraint in constraints {
         list_constraint(rt, *constraint)?;
     }
+    // the variables are V0 to V7, which no list has
     for variable in 0..8 {
         settle(rt, constraints, variable)?;
     }

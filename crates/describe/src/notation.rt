@@ -5,6 +5,7 @@ use terms::cell::Cell;
 use terms::constraint::Constraint;
 
 // What is written, before anything is checked.
+// Owns what it reads: the comparison's `Written` is lent cells, and a word of the line has none to lend.
 #[derive(Drop)]
 pub struct Written {
     pub cells: Vec<Cell>,

@@ -4,29 +4,16 @@ use crate::{read, refuse};
 use compare::outside::{Written as Compared, compare};
 use compare::sample::Sample;
 use kinds::bank::ALL_KINDS;
-use std::{fmt, io};
+use std::io;
 use telling::model::ARITIES;
-use telling::term::Written as Cells;
+use telling::sentence::WrittenSample;
 use terms::cell::BLANK;
-
-// The cells of a sample before its blanks, as they are written on a line.
-#[derive(Clone, Copy)]
-struct Row(Sample);
-
-impl fmt::Display for Row {
-    fn fmt<W: fmt::Write>(&self, f: &mut fmt::Formatter<W>) -> fmt::Result {
-        let cells = self.0.cells.split(|cell| *cell == BLANK).next();
-        let cells = Cells(cells.unwrap_or(&[]));
-        let more = if self.0.more { " .." } else { "" };
-        write!(f, "{cells}{more}")
-    }
-}
 
 fn tell(rt: &HostRuntime, comparison: Option<Sample>) -> io::Result<()> {
     match comparison {
         None => println!(rt; "  they clash: no row fits both"),
         Some(sample) => {
-            let row = Row(sample);
+            let row = WrittenSample(sample);
             println!(rt; "  they overlap: this row fits both:{row}")
         }
     }

@@ -1,7 +1,6 @@
 // Values in a planner's words.
 use kinds::common::Value;
 use std::fmt;
-use telling::condition::day_name;
 use telling::moment::{Moment, moment_of};
 
 #[derive(Clone, Copy)]
@@ -11,10 +10,7 @@ impl fmt::Display for Spoken {
     fn fmt<W: fmt::Write>(&self, f: &mut fmt::Formatter<W>) -> fmt::Result {
         let Value { letter, code } = self.0;
         match (letter, moment_of(code)) {
-            (b'H', Some(Moment { day, hour })) => {
-                let day = day_name(day);
-                write!(f, "{day} {hour}:00")
-            }
+            (b'H', Some(Moment { day, hour })) => write!(f, "{day} {hour}:00"),
             (b'C', _) => write!(f, "class {code}"),
             (b'N', _) => write!(f, "{code}"),
             _ => {

@@ -37,6 +37,7 @@ pub fn arities() -> [u8; 32] {
     arities
 }
 
+// Makes a call for a list; `reserve` of telling's `Script` pushes one to a script.
 pub fn reserve<'a>(
     transaction: u32,
     right: u8,

@@ -10,6 +10,7 @@ fn row(n: u32) -> [Cell; 2] {
     [cell(b'S', 3), cell(b'N', n)]
 }
 
+// Makes a call for a list; `write` of telling's `Script` pushes one to a script.
 fn write<'a>(cells: &'a [Cell], count: u32) -> Call<'a> {
     Call::Write {
         transaction: 1,
@@ -139,9 +140,7 @@ fn reservations_cover(rt: HostRuntime) -> Result<(), Fail> {
 #[test]
 fn a_full_roll_of_reservations(rt: HostRuntime) -> Result<(), Fail> {
     let mut calls = begins(rt.alloc(), 1, 1)?;
-    for _ in 0..65 {
-        calls.push(reserve(1, b'R', &ANY, FREE))?;
-    }
+    calls.resize(66, reserve(1, b'R', &ANY, FREE))?;
     check(
         &rt,
         play(&rt, calls.as_slice())?.as_slice(),

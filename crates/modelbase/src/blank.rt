@@ -17,7 +17,7 @@ impl Lines {
     pub fn new(count: usize) -> Option<Lines>
         ensures { MatchOption result ((1 ≤ count) × (count ≤ 4096) → ⊥) (λ l. l.count ≡ count) }
     {
-        // no `then_some`: it would make the lines before the test
+        // no `then_some`, which would make the lines before the test, and no `then`, whose closure has to state the test again as its clause
         if count == 0 || count > 4096 {
             return None;
         }

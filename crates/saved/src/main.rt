@@ -10,13 +10,14 @@ use std::{fs, io};
 use stores::count::Count;
 use stores::entry::Size;
 use stores::store::Store;
-use telling::model::{ARITIES, MONDAY, count_row, hour};
+use telling::day::Day;
+use telling::model::{ARITIES, count_row};
 use terms::cell::Cell;
 use terms::row::Row;
 
 // A count at junction 12 on a Monday: the hour, the vehicle class, and the turn from one arm to another.
 fn count_at(of_day: u8, class: u32, from: u32, to: u32) -> [Cell; 7] {
-    count_row(12, hour(MONDAY, of_day), class, from, to)
+    count_row(12, Day::Monday.at(of_day), class, from, to)
 }
 
 // The lines of an image, each with its number.

@@ -1,7 +1,7 @@
 // Answers the sheet of requests on the standard input, over 64 empty places of a table.
 #![tactic(auto)]
 
-use anyhow::{Context, anyhow};
+use anyhow::Context;
 use kinds::bank::ALL_KINDS;
 use sheets::answering::answer_sheet;
 use std::io::{Read, Write};
@@ -13,20 +13,19 @@ use telling::model::ARITIES;
 fn answers(rt: &HostRuntime, input: &[u8]) -> anyhow::Result<Vec<u8>> {
     let mut rolls = Rolls::new().context("the arities are not allowed")?;
     let mut records = [None; 64];
-    let Ok(mut table) = Table::new(&mut records) else {
-        return Err(anyhow!("a table of 64 places is refused"));
-    };
-    match answer_sheet(
+    let mut table = Table::new(&mut records)
+        .ok()
+        .context("a table of 64 places is refused")?;
+    answer_sheet(
         rt.alloc(),
         ALL_KINDS,
         ARITIES,
         &mut rolls.memory(),
         &mut table,
         input,
-    ) {
-        Ok(out) => Ok(out),
-        Err(_) => Err(anyhow!("there is no memory left")),
-    }
+    )
+    .ok()
+    .context("there is no memory left")
 }
 
 // More bytes than a sheet has are not waited for.

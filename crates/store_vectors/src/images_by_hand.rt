@@ -9,7 +9,7 @@ const LINE: usize = 128;
 // S3 N1 with the count 5.
 const ROW: &[u8; 20] = b"S        3N        1";
 
-// Symbol 2 has two arguments and symbol 3 one.
+// Symbol 2 has two arguments and symbol 3 one. Each crate of vectors shows its own arities.
 fn arities() -> [u8; 32] {
     let mut arities = [0; 32];
     arities[2] = 2;
@@ -61,6 +61,7 @@ fn damaged(at: usize, text: &str) -> (u8, usize, usize) {
 
 #[test]
 fn each_field(rt: HostRuntime) {
+    // by number: the twelve fields are places in a line, and no list has them
     for field in 0..12usize {
         assert_eq!(rt; damaged(field * 10, "v"), (41, 0, field + 1));
         assert_eq!(rt; damaged(LINE + field * 10, "v"), (41, 1, field + 1));

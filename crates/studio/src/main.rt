@@ -9,6 +9,7 @@ use story::Sheets;
 use telling::follow::perform;
 use telling::script::Script;
 
+// The office's `main` has the same shape and another story, kind and table; what the two share is `perform`.
 fn main(rt: HostRuntime) -> anyhow::Result<()> {
     let sheets = Sheets::new();
     let mut script = Script::new(rt.alloc());

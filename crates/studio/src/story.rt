@@ -106,6 +106,7 @@ fn finish<'a>(script: &mut Script<'a>, sheets: &'a Sheets) -> Result<(), AllocEr
     script.tally()
 }
 
+// The office's `write` has the same shape, but its sheets are of another type and its parts tell another story.
 pub fn write<'a>(script: &mut Script<'a>, sheets: &'a Sheets) -> Result<(), AllocError> {
     reserve(script, sheets)?;
     load(script, sheets)?;

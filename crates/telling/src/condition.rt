@@ -8,7 +8,7 @@ use std::cmp::Ordering;
 use std::fmt;
 
 // A day of the week, Monday being 0.
-pub fn day_name(day: u32) -> &'static str {
+fn day_name(day: u32) -> &'static str {
     Day::numbered(day).map_or("no day", Day::name)
 }
 
@@ -45,6 +45,7 @@ fn tell_run<W: fmt::Write>(f: &mut fmt::Formatter<W>, unit: Unit, run: Run) -> f
 fn tell_runs<W: fmt::Write>(f: &mut fmt::Formatter<W>, unit: Unit, mask: u32) -> fmt::Result {
     let top = unit.top();
     let mut at = 0;
+    // from run to run: each is sought behind the one before, so there is no list or range of them to go through
     while let Some(run) = next_run(mask, at, top) {
         let next = run.last + 1;
         let joint = if at == 0 {

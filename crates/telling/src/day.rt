@@ -19,6 +19,7 @@ pub enum Day {
 
 impl Day {
     // The day of a number, Monday being 0; none exactly past Sunday.
+    // `TryFrom` is no plainer: its error would be one more type that tells nothing, and `day_name` takes an Option.
     pub fn numbered(number: u32) -> Option<Day>
         ensures { MatchOption result (7 ≤ number) (λ d. day_number d ≡ number) }
     {

@@ -84,6 +84,7 @@ pub fn holdings<S: Store>(rt: &HostRuntime, store: &S) -> io::Result<()> {
     let held = Many::of(rows as u64, "row");
     let free = places.saturating_sub(rows);
     println!(rt; "The model base holds {held} in {places} places; {free} are free:")?;
+    // by number: a store gives each row by `row`, and has no list of them
     for entry in (0..rows).filter_map(|k| store.row(k)) {
         let row = RowWords(entry.key.cells());
         println!(rt; "  {:>6} for {row}", entry.count.value)?;

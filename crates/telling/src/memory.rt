@@ -11,6 +11,7 @@ use terms::row::Row;
 use terms::signature::Signature;
 
 // What a manager is lent as its memory.
+// Owns the arrays that `Memory` is lent: the manager has no memory of its own, and this one needs no heap.
 #[derive(Clone, Copy)]
 pub struct Rolls {
     transactions: [Transaction; 16],

@@ -36,6 +36,7 @@ pub const WEEKENDS: u32 = 96;
 pub const ALL_DAY: u32 = 16_777_215;
 
 // A junction, an arm or any other whole number.
+// As `class` and `variable`, but of another letter: one function of letter and number would be `Cell` itself again.
 pub fn number(number: u32) -> Cell {
     Cell {
         letter: b'N',
@@ -53,6 +54,7 @@ pub fn hour(day: u8, hour: u8) -> Cell
     }
 }
 
+// As `number`, but of the letter C.
 pub fn class(number: u32) -> Cell {
     Cell {
         letter: b'C',
@@ -60,6 +62,7 @@ pub fn class(number: u32) -> Cell {
     }
 }
 
+// As `number`, but of the letter V.
 pub fn variable(number: u32) -> Cell {
     Cell {
         letter: b'V',
@@ -92,6 +95,7 @@ pub fn counts_at(junction: u32) -> [Cell; 5] {
 }
 
 // The variable's hour is on one of these days at one of these hours, as masks.
+// As `between`, but of another form: one function of form, a and b would be `Constraint` itself again.
 pub fn within_hours(variable: u32, days: u32, hours: u32) -> Constraint {
     Constraint {
         variable,
@@ -116,6 +120,7 @@ pub fn one_of(variable: u32, classes: u32) -> Constraint {
 }
 
 // The variable's number is from low to high.
+// As `within_hours`, but of the form B, whose two numbers are no masks.
 pub fn between(variable: u32, low: u32, high: u32) -> Constraint {
     Constraint {
         variable,

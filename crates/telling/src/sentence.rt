@@ -112,10 +112,8 @@ impl<'a> fmt::Display for Told<'a> {
 // The cells of a sample before its blanks.
 fn filled(sample: &Sample) -> &[Cell] {
     let cells = &sample.cells[..];
-    match cells.iter().position(|cell| cell.letter == b' ') {
-        Some(end) => &cells[..end],
-        None => cells,
-    }
+    let end = cells.iter().position(|cell| cell.letter == b' ');
+    &cells[..end.unwrap_or(cells.len())]
 }
 
 // What a sample ends in where more cells follow.

@@ -121,6 +121,7 @@ impl<'a> fmt::Display for RowWords<'a> {
 }
 
 // Every row that fits a pattern.
+// A wrapping to print lent cells and constraints in words: a call has them unread, so there is no `Pattern` to print.
 #[derive(Clone, Copy)]
 pub struct PatternWords<'a> {
     pub cells: &'a [Cell],

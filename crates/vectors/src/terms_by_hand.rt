@@ -9,7 +9,7 @@ use terms::pattern::Pattern;
 use terms::row::Row;
 use terms::signature::Signature;
 
-// Symbol 1 has seven arguments, symbol 2 two and symbol 3 one.
+// Symbol 1 has seven arguments, symbol 2 two and symbol 3 one. Each crate of vectors shows its own arities.
 fn arities() -> [u8; 32] {
     let mut arities = [0; 32];
     arities[1] = 7;
