@@ -47,7 +47,7 @@ fn shows(n: u32, part: &[u8]) -> bool
     part.strip_suffix(text.as_slice()).is_some_and(is_blank)
 }
 
-// What a digit is worth; any other byte is worth nothing.
+// What a digit is worth; any other byte is worth nothing. No `From`: of bytes it would hold everywhere.
 fn worth_of(b: u8) -> u32
     ensures { result ≡ worth b }
 {

@@ -63,6 +63,7 @@ impl Terms<'_> {
         requires { i < length self.now.cells.now }
         ensures { Ready self.now.signature.now.arities self.now.cells.now wait i result }
     {
+        // not `any`: that a variable has a place in `wait` is known of the term's cells, and not of what a closure is given
         for cell in self.term(i) {
             if cell.letter == b'V' && wait[cell.number as usize] {
                 return false;
@@ -95,7 +96,7 @@ impl Bound<'_> {
     fn bound_variables(&self) -> [bool; 16]
         ensures { (x : ℕ) → x < 16 → slice_index_or result x false ≡ nat_lt (entry self.now.sheet.now x) (length self.now.terms.cells.now) }
     {
-        // not `from_fn`: its closure would have to be one call
+        // not `from_fn`: tried, also over a method as in `roots`; what its closure answers stayed unproved
         let mut bound = [false; 16];
         for x in 0..16 {
             bound[x] = self.place(x).is_some();

@@ -13,7 +13,7 @@ use terms::fault::PatternFault;
 use terms::pattern::Pattern;
 use terms::signature::Signature;
 
-// The cells and the constraints of a pattern.
+// The cells and the constraints of a pattern, lent by who wrote them, and not yet checked as those of a `Pattern` are.
 #[derive(Clone, Copy)]
 pub struct Written<'a> {
     pub cells: &'a [Cell],

@@ -47,10 +47,8 @@ fn stands<K: Kind>(
     ensures answer { Decides result (Stands signature.now.arities (K.Kind.means kind.now) transaction (described pattern.now) changes.now (cells_of row.now)) }
     ensures blank { Blank sheet.new }
 {
-    match change_for(changes, transaction, row) {
-        Some(_) => false,
-        None => fits_key(kind, signature, row, pattern, sheet),
-    }
+    change_for(changes, transaction, row).is_none()
+        && fits_key(kind, signature, row, pattern, sheet)
 }
 
 // The rows of the store that fit and that the transaction has not changed.

@@ -83,6 +83,7 @@ pub fn abandon_ticket<K: Kind>(
             ticket.spent = true;
             Err(AbandonFault::NotOpen)
         }
+        // no `map_err`: two of the three arms spend the ticket, and the third hands it on
         Err(_) => Err(AbandonFault::Back(ticket)),
     }
 }

@@ -38,6 +38,7 @@ pub fn trimmed(line: &[u8]) -> &[u8]
     ensures { result.now ≡ trim line.now }
 {
     let mut rest = line;
+    // not `trim_ascii_end`, which takes other white space too
     while let [front @ .., b' '] = rest {
         rest = front;
     }

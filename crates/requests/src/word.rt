@@ -5,6 +5,7 @@ ghost use Rattle.requests.specs.Steps.{guessed};
 
 use crate::lines::byte_at;
 
+// Of a call only its name, as a refused line's answer still shows it.
 #[derive(Clone, Copy, PartialEq, Eq, Debug)]
 pub enum Word {
     Begin,

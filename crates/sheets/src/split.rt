@@ -23,6 +23,7 @@ pub fn split_lines<'a>(heap: Global, input: &'a [u8]) -> Result<Lines<'a>, Alloc
 {
     let mut ended = Vec::new(heap);
     let mut rest = input;
+    // not `split`: what follows the last newline is no line, and is told apart
     while let Some(end) = newline_in(rest) {
         ended.push(&rest[..end])?;
         rest = &rest[end + 1..];

@@ -33,7 +33,7 @@ fn granted(word: Word, first: Option<u64>, second: Option<u64>) -> AnswerLine
     }
 }
 
-// The transaction and the reservation that a reserve collides with.
+// The transaction and the reservation that a reserve collides with. No conversion of types: one part is taken from one fault.
 fn holder_of(fault: ManagerFault) -> Option<(u32, u32)>
     ensures { result ≡ holder fault }
 {
@@ -46,6 +46,7 @@ fn holder_of(fault: ManagerFault) -> Option<(u32, u32)>
     }
 }
 
+// The next two are no impls of `From`: Option and the numbers are types of std.
 fn widened(place: Option<usize>) -> Option<u64>
     ensures { result ≡ place }
 {
