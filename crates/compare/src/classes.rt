@@ -47,6 +47,8 @@ impl Bound<'_> {
     }
 }
 
+// Here and below: that the constraints are few, and which variables they name, is what `Joined` says of a joint's; a type of lists of such
+// constraints would be made once, for the one call from outside.
 // The conditions on the variables that stand for the free variable y.
 fn gather(constraints: &[Constraint], roots: &[Root; 16], y: usize) -> UpTo<Condition, 16>
     requires few { length constraints.now ≤ 16 }

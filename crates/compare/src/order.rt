@@ -112,6 +112,7 @@ impl Bound<'_> {
         let mut wait = self.bound_variables();
         let to_place = wait.iter().filter(|open| **open).count();
         let mut out = [None; 16];
+        // by number, from the last place to be filled: `out` is written and not gone through
         for k in (0..to_place).rev() {
             let leaf = self.leaf(wait)?;
             let binding = Binding {

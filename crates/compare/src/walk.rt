@@ -50,6 +50,7 @@ pub struct Bound<'a> {
 }
 
 impl Bound<'_> {
+    // Here and below a place is a plain number with its bound in a clause: a type of places in these cells would have to carry the cells.
     // The place of the term that the variable x is bound to; none if x is free.
     pub fn place(&self, x: usize) -> Option<usize>
         requires { x < 16 }

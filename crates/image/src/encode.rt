@@ -10,7 +10,7 @@ use columns::number::write_number;
 use stores::count::Count;
 use terms::row::Row;
 
-// Writes the line of a row and its count. A key's numbers and a count have room in their columns.
+// Writes the line of a row and its count. A row's numbers and a count have room in their columns.
 pub(crate) fn encode(key: &Row, count: Count, line: &mut [u8])
     requires { length line.old ≡ 128 }
     ensures { line.new ≡ shown (cells_of key.now) (count_of count) }

@@ -50,6 +50,7 @@ impl Kind for Hour {
         single::top_of::<_, _, Hour>(letter)
     }
 
+    // as the number's: one call of what the two share
     fn letter(&self, condition: Condition) -> Option<u8> {
         single::letter_where::<_, _, Hour>(Hour::knows(condition))
     }

@@ -36,6 +36,7 @@ impl Kind for Number {
         single::top_of::<_, _, Number>(letter)
     }
 
+    // as the hour's: one call of what the two share
     fn letter(&self, condition: Condition) -> Option<u8> {
         single::letter_where::<_, _, Number>(Number::knows(condition))
     }

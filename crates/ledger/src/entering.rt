@@ -1,4 +1,4 @@
-// The changes of a transaction enter a store.
+// The changes of a transaction enter a store. Each function that writes to it promises that it keeps its places, as the trait's own do.
 ghost use Rattle.std.specs.Prelude.{◌≡◌, ◌≤◌, true, false, [], ◌∷◌, map, length, count_by};
 ghost use Rattle.maps.specs.Maps.{Same};
 ghost use Rattle.serial.specs.Entering.{Room, alters, chosen, entered};

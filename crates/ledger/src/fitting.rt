@@ -16,6 +16,7 @@ use terms::pattern::Pattern;
 use terms::row::Row;
 use terms::signature::Signature;
 
+// Here and below, that a pattern is proper stands in a clause: it depends on the signature and the kind, which are values, so no type says it.
 // Whether a row of a store fits the pattern. Cells that are no row fit no pattern.
 pub fn fits_key<K: Kind>(
     kind: &K,

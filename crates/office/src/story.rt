@@ -1,4 +1,5 @@
 // What the consultants sent, and what the planners do with it.
+// A script borrows the cells of the sheets, so that the two are lent to each part side by side, and no struct holds both.
 use std::alloc::AllocError;
 use telling::day::Day;
 use telling::model::{

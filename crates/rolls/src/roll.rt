@@ -4,6 +4,7 @@ ghost use Rattle.rolls.specs.Rolls.{Has, Pushed, without};
 use crate::entry::Owned;
 
 // The length of a roll, beside memory that is lent. Its entries are the first ones of the memory; what lies past them is open.
+// The caller brings the memory to every call, so that it has room for the length stands in the calls' clauses, and in no type.
 #[derive(Clone, Copy)]
 pub struct Roll {
     len: usize,

@@ -9,7 +9,7 @@ use requests::request::Request;
 use runs::call::Call;
 use std::alloc::{AllocError, Global};
 
-// The call that a request asks for, over the request's own cells.
+// The call that a request asks for, over the request's own cells. No `From`, since both are types of other crates.
 pub fn call_of<'a>(request: &'a Request) -> Call<'a>
     ensures { asked_by result ≡ asked_of request.now }
 {

@@ -41,6 +41,8 @@ fn scan_cell<K: Kind>(
     Ok(next)
 }
 
+// Signature and kind are passed apart, here and in all that reads or compares: a struct of both was tried. It holds references, so that
+// each clause had to name a moment for each, and the clauses grew by a third.
 // Whether the cells are one term of the shape; else the first fault.
 pub fn check_cells<K: Kind>(
     signature: &Signature,
