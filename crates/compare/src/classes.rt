@@ -56,6 +56,7 @@ fn gather(constraints: &[Constraint], roots: &[Root; 16], y: usize) -> UpTo<Cond
     ensures { items result ≡ class_conditions roots.now constraints.now y }
 {
     let mut conditions = UpTo::new(NO_CONSTRAINT.condition);
+    // pushed one by one, where the root is the one asked for
     for constraint in constraints {
         let root = roots[constraint.variable as usize];
         if matches!(root, Root::Variable(z) if z == y) {

@@ -58,6 +58,7 @@ pub fn lay<T: Shift + Copy, const N: usize>(left: &[T], right: &[T], blank: T) -
     ensures { items result ≡ left.now ++ map T.Shift.shifted right.now }
 {
     let mut laid = UpTo::of(left, blank);
+    // pushed one by one, each shifted
     for item in right {
         laid.push(item.shift());
     }

@@ -12,6 +12,7 @@ pub(crate) fn read_cells(line: &[u8; 128]) -> UpTo<Cell, 12>
 {
     let mut found = UpTo::new(BLANK);
     let (fields, _) = line.as_chunks::<10>();
+    // pushed one by one, up to the first field that shows no cell
     for field in fields {
         match read_cell(field) {
             Some(cell) => found.push(cell),

@@ -35,6 +35,7 @@ fn first_of<P, T: Copy, F: Fn(&P) -> T, const N: usize>(
     requires { F.IsAlwaysCallable decode }
 {
     let mut items = UpTo::new(blank);
+    // pushed one by one, while there is room
     for piece in pieces {
         if items.len() == N {
             break;

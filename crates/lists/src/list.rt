@@ -23,6 +23,7 @@ impl<T: Copy, const N: usize> UpTo<T, N> {
         ensures { items result ≡ from.now }
     {
         let mut list = UpTo::new(blank);
+        // the loop that fills a list from a slice; where others push, each item is worked out on the way, and an `extend` would be no shorter
         for item in from {
             list.push(*item);
         }

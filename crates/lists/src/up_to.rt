@@ -3,7 +3,8 @@ ghost use Rattle.std.specs.Prelude.{◌≡◌, ◌≤◌, length, ⊤};
 
 use std::alloc::AllocError;
 
-// A list of at most N items; what lies past them is open.
+// A list of at most N items; what lies past them is open. Where rows and patterns are kept nothing may allocate, so the length stands beside
+// the places, here and nowhere else.
 pub struct UpTo<T, const N: usize> {
     pub(crate) slots: [T; N],
     pub(crate) len: usize,

@@ -4,7 +4,7 @@ ghost use Rattle.modelbase.specs.Blank.{BlankTo};
 
 use std::alloc::{AllocError, Global};
 
-// How many lines a file has.
+// How many lines a file has: a number, and no buffer's length.
 #[derive(Clone, Copy)]
 pub struct Lines {
     count: usize,

@@ -5,7 +5,7 @@ ghost use Rattle.requests.specs.Steps.{guessed};
 
 use crate::lines::byte_at;
 
-// Of a call only its name, as a refused line's answer still shows it.
+// Of a call only its name, without what it asks: the answers to all requests of a name begin with it.
 #[derive(Clone, Copy, PartialEq, Eq, Debug)]
 pub enum Word {
     Begin,

@@ -4,7 +4,7 @@ use stores::count::Count;
 use terms::cell::Cell;
 use terms::constraint::Constraint;
 
-// A call as it comes from outside: nothing of it has been checked.
+// A call as it comes from outside: nothing of it has been checked. It is lent its cells, where a `Request` owns those that it read.
 #[derive(Clone, Copy)]
 pub enum Call<'a> {
     Begin {

@@ -83,6 +83,7 @@ impl Awaited {
 
     // The arguments of a symbol of the model base come next; those past the 32nd place are not awaited.
     pub fn await_arguments(&mut self, symbol: u32) {
+        // pushed one by one, while there is room
         for place in arguments(symbol).iter().rev() {
             if self.places.len() < 32 {
                 self.places.push(*place);
