@@ -139,7 +139,8 @@ fn describe(rt: &HostRuntime, signature: &Signature, text: &str) -> anyhow::Resu
 // A line has one description or two.
 fn answer(rt: &HostRuntime, signature: &Signature, line: &str) -> anyhow::Result<()> {
     println!(rt; "{line}")?;
-    let parts: Vec<&str> = line.split('|').collect(rt.alloc())?;
+    // no more parts than tell what the line is: a line of bars alone would fill the memory
+    let parts: Vec<&str> = line.split('|').take(3).collect(rt.alloc())?;
     match parts.as_slice() {
         [one] => describe(rt, signature, one),
         [left, right] => overlaps::compare_two(rt, left, right),

@@ -7,12 +7,14 @@ use crate::plural::Many;
 use crate::script::{Remark, Script};
 use crate::sentence::{Asked, Shown, Told};
 use crate::term::RowWords;
-use anyhow::Context;
+use anyhow::{Context, anyhow};
 use compare::sample::Sample;
 use kinds::kind::Kind;
 use manager::fault::ManagerFault;
 use runs::call::{Answer, Call};
+use sheets::fault::SheetFault;
 use sheets::running::{Answered, run_calls};
+use std::alloc::AllocError;
 use std::io;
 use stores::entry::{Record, Size};
 use stores::store::Store;
@@ -28,9 +30,12 @@ pub fn answer<K: Kind + Drop, S: Store>(
     ensures { IfOk result (λ a. (vec_len a.answers ≡ length calls.now) × (vec_len a.samples ≡ length calls.now)) }
 {
     let mut rolls = Rolls::new().context("the model base's arities are not allowed")?;
-    run_calls(rt.alloc(), kind, ARITIES, &mut rolls.memory(), store, calls)
-        .ok()
-        .context("the manager is refused, or memory is wanting")
+    run_calls(rt.alloc(), kind, ARITIES, &mut rolls.memory(), store, calls).map_err(
+        |fault| match fault {
+            SheetFault::NoMemory => anyhow::Error::from(AllocError),
+            SheetFault::Manager(_) => anyhow!("the memory is not of the rolls' sizes"),
+        },
+    )
 }
 
 // The remarks before call i.

@@ -31,11 +31,12 @@ impl Row {
     pub fn new(cells: &[Cell]) -> Option<Row>
         ensures { MatchOption result (Storable cells.now → ⊥) (λ r. cells_of r ≡ cells.now) }
     {
+        // first how many they are: of a long slice no cell is looked at
+        let kept = UpTo::copied(cells, BLANK)?;
         if cells.is_empty() || !are_short(cells) {
             return None;
         }
-        let cells = UpTo::copied(cells, BLANK)?;
-        Some(Row { cells })
+        Some(Row { cells: kept })
     }
 
     // The cells of a row, where they are one.
