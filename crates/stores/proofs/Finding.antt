@@ -1,6 +1,6 @@
 -- The first record that passes a test, and the records in use.
-use Rattle.std.proofs.Common.{◌≡◌, ℕ, ◌<◌, zero, suc, ◌+◌, Bool, true, false, cond, not, replicate, count_by, List, [], ◌∷◌, length, get_or, map, Some, None, is_some, Err, MatchOption, Option, sym, refl, ap, subst, ◌∙◌, arith}
-use Rattle.std.specs.List.{position, filter, filter_map, slice_get}
+use Rattle.std.proofs.Common.{◌≡◌, ℕ, ◌<◌, zero, suc, ◌+◌, Bool, true, false, cond, not, replicate, count_by, List, [], ◌∷◌, length, get_or, map, Some, None, Err, MatchOption, Option, sym, refl, ap, subst, ◌∙◌, arith}
+use Rattle.std.specs.List.{position, filter_map, slice_get}
 use Rattle.std.specs.Option.{option_map, ok_or}
 use Rattle.std.specs.Result.{IfErr}
 use Rattle.std.proofs.lemmas.Result.{IfErr-at_err}
@@ -29,24 +29,13 @@ rows_kept [] = refl
 rows_kept (None ∷ rs) = rows_kept rs
 rows_kept (Some e ∷ rs) = ap (λ hs. holding_of e ∷ hs) (rows_kept rs)
 
--- what a record holds, if there is one
-abbrev pub held_by : Option Record → Option Entry
-held_by None = None
-held_by (Some r) = r
-
-used_kept : (rs : List Record) (k : ℕ) → held_by (slice_get (filter is_some rs) k) ≡ slice_get (filter_map (λ r. r) rs) k
-used_kept [] k = refl
-used_kept (None ∷ rs) k = used_kept rs k
-used_kept (Some e ∷ rs) zero = refl
-used_kept (Some e ∷ rs) (suc k) = used_kept rs k
-
-pub row_kept : (rs : List Record) (k : ℕ) (o : Option Record) → o ≡ slice_get (filter is_some rs) k
-    → option_map holding_of (held_by o) ≡ slice_get (held (contents rs)) k
-row_kept rs k o e =
-    ap (λ r. option_map holding_of (held_by r)) e
-    ∙ ap (option_map holding_of) (used_kept rs k)
-    ∙ sym (slice_get-map holding_of (filter_map (λ r. r) rs) k)
-    ∙ ap (λ hs. slice_get hs k) (rows_kept rs)
+pub row_kept : (rs : List Record) (k : ℕ) (o : Option Entry) → option_map (λ e. e) o ≡ slice_get (filter_map (λ r. r) rs) k
+    → option_map holding_of o ≡ slice_get (held (contents rs)) k
+row_kept rs k o e = sym (same o) ∙ ap (option_map holding_of) e ∙ sym (slice_get-map holding_of (filter_map (λ r. r) rs) k) ∙ ap (λ hs. slice_get hs k) (rows_kept rs)
+  where
+    same : (o : Option Entry) → option_map holding_of (option_map (λ e. e) o) ≡ option_map holding_of o
+    same None = refl
+    same (Some e) = refl
 
 -- the first free record
 pub free_found : (rs : List Record) (o : Option ℕ) → o ≡ position (λ r. not (taken (place_of r))) rs

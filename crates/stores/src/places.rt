@@ -66,8 +66,7 @@ pub(crate) fn used_places(records: &[Record]) -> usize
 pub(crate) fn used_row(records: &[Record], k: usize) -> Option<Entry>
     ensures { option_map holding_of result ≡ slice_get (held (contents records.now)) k }
 {
-    // the records that are passed over are looked at, and not copied as `filter_map` would
-    *records.iter().filter(|record| record.is_some()).nth(k)?
+    records.iter().filter_map(|record| *record).nth(k)
 }
 
 // Frees every place.
