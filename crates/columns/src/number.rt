@@ -1,5 +1,5 @@
 // Numbers in columns: decimal, right-justified, without leading zeros.
-ghost use Rattle.std.specs.Prelude.{◌≡◌, ◌++◌, ◌+◌, ◌*◌, ◌/◌, ◌%◌, ◌^◌, ◌<◌, ◌≤◌, map, length, decimal, Decides, MatchOption};
+ghost use Rattle.std.specs.Prelude.{◌≡◌, ◌+◌, ◌*◌, ◌/◌, ◌%◌, ◌^◌, ◌<◌, ◌≤◌, map, length, decimal, Decides, MatchOption};
 ghost use Rattle.std.specs.Int.Digits.{number_from_digits as number_of};
 ghost use Rattle.columns.specs.Columns.{columns, Reads, Writes};
 ghost use Rattle.columns.specs.Steps.{worth};
@@ -12,23 +12,16 @@ use lists::up_to::UpTo;
 #[derive(Clone, Copy, PartialEq, Eq, Debug)]
 pub struct NoRoom;
 
-// Pushes the digits of a number, where they have room. The list is lent, since one handed on from digit to digit is copied at each.
-fn push_digits(n: u32, text: &mut UpTo<u8, 10>)
-    requires { length (items text.old) + length (decimal n) ≤ 10 }
-    ensures { items text.new ≡ items text.old ++ decimal n }
-{
-    if n >= 10 {
-        push_digits(n / 10, text);
-    }
-    text.push(b'0' + (n % 10) as u8);
-}
-
 // The digits of a number, at most ten.
 fn digits(n: u32) -> UpTo<u8, 10>
     ensures { items result ≡ decimal n }
 {
-    let mut text = UpTo::new(b'0');
-    push_digits(n, &mut text);
+    let mut text = if n < 10 {
+        UpTo::new(b'0')
+    } else {
+        digits(n / 10)
+    };
+    text.push(b'0' + (n % 10) as u8);
     text
 }
 
