@@ -1,5 +1,9 @@
--- The step by which numbers are read.
-use Rattle.std.specs.Prelude.{ℕ, ◌-◌, cond, nat_lt}
+-- The steps by which numbers are read and written.
+use Rattle.std.specs.Prelude.{ℕ, ◌+◌, ◌-◌, ◌%◌, cond, ◌==◌, nat_lt}
+
+-- the last digit of what is left of a number, or a space where nothing is left
+abbrev pub mark : ℕ → ℕ
+mark rest = cond (rest == 0) 32 (48 + rest % 10)
 
 -- what a byte is worth: a digit its number, and any other byte nothing
 abbrev pub worth : ℕ → ℕ

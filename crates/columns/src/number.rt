@@ -2,40 +2,52 @@
 ghost use Rattle.std.specs.Prelude.{◌≡◌, ◌+◌, ◌*◌, ◌/◌, ◌%◌, ◌^◌, ◌<◌, ◌≤◌, map, length, decimal, Decides, MatchOption};
 ghost use Rattle.std.specs.Int.Digits.{number_from_digits as number_of};
 ghost use Rattle.columns.specs.Columns.{columns, Reads, Writes};
-ghost use Rattle.columns.specs.Steps.{worth};
-ghost use Rattle.lists.specs.Lists.{items};
-
-use crate::blank::is_blank;
-use lists::up_to::UpTo;
+ghost use Rattle.columns.specs.Steps.{mark, worth};
 
 // The columns are too few for what is to be written.
 #[derive(Clone, Copy, PartialEq, Eq, Debug)]
 pub struct NoRoom;
 
-// The digits of a number, at most ten.
-fn digits(n: u32) -> UpTo<u8, 10>
-    ensures { items result ≡ decimal n }
+// The digit that ends what is left of a number, or a space where nothing is left.
+fn mark_of(rest: u32) -> u8
+    ensures { result ≡ mark rest }
 {
-    let mut text = if n < 10 {
-        UpTo::new(b'0')
+    if rest == 0 {
+        b' '
     } else {
-        digits(n / 10)
-    };
-    text.push(b'0' + (n % 10) as u8);
-    text
+        b'0' + (rest % 10) as u8
+    }
+}
+
+// How many digits a number has.
+fn width_of(n: u32) -> usize
+    ensures value { result ≡ length (decimal n) }
+    ensures some { 0 < result }
+{
+    let mut rest = n / 10;
+    let mut width: usize = 1;
+    while rest > 0 {
+        rest /= 10;
+        width += 1;
+    }
+    width
 }
 
 // Writes a number to the right, after spaces; refused where it has more digits than there are columns.
 pub fn write_number(n: u32, part: &mut [u8]) -> Result<(), NoRoom>
     ensures { Writes (decimal n) part.old part.new result }
 {
-    let text = digits(n);
-    if part.len() < text.len() {
+    if part.len() < width_of(n) {
         return Err(NoRoom);
     }
-    let before = part.len() - text.len();
-    part[..before].fill(b' ');
-    part[before..].copy_from_slice(text.as_slice());
+    let mut i = part.len() - 1;
+    part[i] = b'0' + (n % 10) as u8;
+    let mut rest = n / 10;
+    while i > 0 {
+        i -= 1;
+        part[i] = mark_of(rest);
+        rest /= 10;
+    }
     Ok(())
 }
 
@@ -43,8 +55,22 @@ pub fn write_number(n: u32, part: &mut [u8]) -> Result<(), NoRoom>
 fn shows(n: u32, part: &[u8]) -> bool
     ensures { Decides result (part.now ≡ columns (length part.now) n) }
 {
-    let text = digits(n);
-    part.strip_suffix(text.as_slice()).is_some_and(is_blank)
+    if part.len() < width_of(n) {
+        return false;
+    }
+    let mut i = part.len() - 1;
+    if part[i] != b'0' + (n % 10) as u8 {
+        return false;
+    }
+    let mut rest = n / 10;
+    while i > 0 {
+        i -= 1;
+        if part[i] != mark_of(rest) {
+            return false;
+        }
+        rest /= 10;
+    }
+    true
 }
 
 // What a digit is worth; any other byte is worth nothing. No `From`: of bytes it would hold everywhere.

@@ -1,30 +1,36 @@
-use Rattle.std.proofs.Common.{◌≡◌, ◌≢◌, ℕ, ◌-◌, Bool, false, List, ◌++◌, length, Some, None, decimal, Decides, MatchOption, Option, sym, ap, ◌∙◌, arith}
-use denote.Ref.{Bor}
+use Rattle.std.proofs.Common.{◌-◌, sym, refl, ◌∙◌, arith}
 use Rattle.std.proofs.lemmas.Bool.{false≢true}
-use Rattle.std.proofs.lemmas.Bool.Decides.{Decides-eqb}
-use Rattle.std.proofs.lemmas.List.{append_cancel_right, length-append}
-use Rattle.std.proofs.lemmas.Slice.Eq.{strip_suffix_is}
-use Rattle.columns.specs.Columns.{blank, columns}
-use Rattle.columns.proofs.Numbers.{columns_is}
+use Rattle.columns.proofs.Numbers.{columns_fits}
+use Rattle.columns.proofs.Writing.{done_first, done_next, done_last, shown_last, shown_next}
 use Rattle.columns.proofs.number.shows.Goals as goal
 
--- what stands before the digits is blank exactly where the columns show the number
-shown : (part p : List ℕ) (n : ℕ) (before : Option (Bor (List ℕ))) (r : Bool) → p ≡ decimal n
-    → MatchOption before ((front : List ℕ) → part ≢ front ++ p) (λ x. part ≡ x.now ++ p)
-    → MatchOption before (r ≡ false) (λ x. Decides r (x.now ≡ blank (length x.now)))
-    → Decides r (part ≡ columns (length part) n)
-shown part p n None r d none off = (
-  λ e. absurd (false≢true (sym off ∙ e)),
-  λ s. absurd (none _ (s ∙ columns_is (length part) n ∙ ap (λ t. blank (length part - length (decimal n)) ++ t) (sym d))),
-)
-shown part p n (Some x) r d at on =
-    let k : length x.now ≡ length part - length (decimal n) = omega (arith, ap length at, length-append x.now p, ap length d) in
-    let same : blank (length x.now) ++ p ≡ columns (length part) n =
-    ap (λ t. blank (length x.now) ++ t) d ∙ ap (λ m. blank m ++ decimal n) k ∙ sym (columns_is (length part) n) in
-    (λ e. at ∙ ap (λ t. t ++ p) (on.0 e) ∙ same, λ s. on.1 (append_cancel_right x.now (blank (length x.now)) p (sym at ∙ s ∙ sym same)))
+pub returns-then-part-width_of : goal.returns-then-part-width_of
+returns-then-part-width_of c =
+    let w = c.width_of.ensures in
+    (λ e. absurd (false≢true e), λ s. absurd (let f = columns_fits c.args.part.now c.args.n s in omega arith))
+
+pub returns-then-part-i : goal.returns-then-part-i
+returns-then-part-i c =
+    let w = c.width_of.ensures in
+    (λ e. absurd (false≢true e), λ s. absurd (c.if-part-i.true (shown_last c.args.part.now c.args.n _ (omega arith) (omega arith) (omega arith) s)))
+
+pub loop-i-init : goal.loop-i-init
+loop-i-init c =
+    let w = c.width_of.ensures in
+    done_first c.args.part.now c.args.n (omega arith) (omega arith) _ (omega arith) c.if-part-i.false
+
+pub returns-then-part-i-2 : goal.returns-then-part-i-2
+returns-then-part-i-2 c =
+    let i = c.loop-i.i in (
+      λ e. absurd (false≢true e),
+      λ s. absurd (c.if-part-i-2.true (shown_next c.args.part.now c.args.n i (i - 1) c.loop-i.rest (omega arith) c.loop-i.invariant s ∙ sym c.mark_of.ensures)),
+    )
+
+pub loop-i-preserved : goal.loop-i-preserved
+loop-i-preserved c =
+    let i = c.loop-i.i in
+    done_next c.args.part.now c.args.n i (i - 1) c.loop-i.rest (omega arith) (c.if-part-i-2.false ∙ c.mark_of.ensures) c.loop-i.invariant
 
 pub returns : goal.returns
 returns c =
-    shown c.args.part.now c.as_slice.result.now c.args.n c.strip_suffix.result c.is_some_and.result (c.as_slice.ensures ∙ c.digits-text.ensures)
-    (strip_suffix_is Decides-eqb c.args.part.now c.as_slice.result.now c.strip_suffix.result c.strip_suffix.ensures.cases)
-    c.is_some_and.ensures
+    (λ _. done_last c.args.part.now c.args.n c.loop-i.i c.loop-i.rest (omega arith) c.loop-i.invariant, λ _. refl)

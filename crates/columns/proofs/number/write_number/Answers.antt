@@ -1,31 +1,24 @@
-use Rattle.std.proofs.Common.{◌≡◌, ℕ, ◌-◌, List, ◌++◌, length, take, drop, decimal, ap, ◌∙◌, arith}
-use borrow.Rule.Slice.PartMut.{put_mid}
-use Rattle.std.proofs.lemmas.List.{append-nil, length-drop, length-take-le, take_at, drop_all}
-use Rattle.columns.specs.Columns.{blank, pad}
+use Rattle.std.proofs.Common.{◌-◌, ap, ◌∙◌, arith}
+use Rattle.std.proofs.lemmas.List.{length-set}
+use Rattle.columns.specs.Columns.{columns}
+use Rattle.columns.proofs.Writing.{write_first, write_next, done_last}
 use Rattle.columns.proofs.number.write_number.Goals as goal
 
--- a write of all that follows the first k bytes
-put_right : (front rest ys : List ℕ) (k : ℕ) → length front ≡ k → put_mid k (length (front ++ rest) - k) (front ++ rest) ys ≡ front ++ ys
-put_right front rest ys k l =
-    let n = length (front ++ rest) - k in
-    let d = length-drop k (front ++ rest) in
-    ap (λ t. t ++ (ys ++ drop n (drop k (front ++ rest)))) (take_at front rest k l)
-    ∙ ap (λ t. front ++ (ys ++ t)) (drop_all n (drop k (front ++ rest)) (omega arith))
-    ∙ ap (λ t. front ++ t) (append-nil ys)
+pub loop-i-init : goal.loop-i-init
+loop-i-init c =
+    let w = c.width_of.ensures in
+    write_first c.args.part.now c.args.n _ (omega arith) (omega arith) (omega arith)
+
+pub loop-i-preserved : goal.loop-i-preserved
+loop-i-preserved c =
+    let i = c.loop-i.i in
+    write_next c.loop-i.part c.args.n i (i - 1) c.loop-i.rest c.mark_of.result (omega arith) c.mark_of.ensures c.loop-i.invariant
 
 pub returns : goal.returns
-unfolding pad
+unfolding columns
 returns c =
-    let part = c.args.part.now in
-    let k = length part - c.len-2.result in
-    let front = c.fill.new.self in
-    let text = c.copy_from_slice.new.self in
-    let w : c.len-2.result ≡ length (decimal c.args.n) = c.len-2.ensures.value ∙ ap length c.digits-text.ensures in
-    let l : length (take k part) ≡ k = length-take-le k part (omega arith) in
-    let f : front ≡ blank k = c.fill.ensures.after (λ y e. e) ∙ ap blank l in
-    let t : text ≡ decimal c.args.n = c.copy_from_slice.ensures.after ∙ c.as_slice.ensures ∙ c.digits-text.ensures in (
-      put_right front (drop k part) text k (c.fill.ensures.len ∙ l)
-          ∙ ap (λ x. x ++ text) (f ∙ ap (λ m. blank (length part - m)) w)
-          ∙ ap (λ x. blank (length part - length (decimal c.args.n)) ++ x) t,
-      omega (arith, c.len.ensures.value, ap length c.digits-text.ensures),
+    let w = c.width_of.ensures in (
+      done_last c.loop-i.part c.args.n c.loop-i.i c.loop-i.rest (omega arith) c.loop-i.invariant
+          ∙ ap (λ m. columns m c.args.n) (c.loop-i.auto.part ∙ length-set c.args.part.now _ _),
+      omega arith,
     )
