@@ -24,9 +24,16 @@ pub fn join(left: &Pattern, right: &Pattern) -> Joint
     requires constraints { AllByRecursion (λ k. k.variable < 8) (described right.now).constraints }
     ensures { Joined (described left.now) (described right.now) result }
 {
-    Joint {
-        cells: lay(left.cells(), right.cells(), BLANK),
+    let mut joint = Joint {
+        cells: UpTo::new(BLANK),
         left: left.cells().len(),
-        constraints: lay(left.constraints(), right.constraints(), NO_CONSTRAINT),
-    }
+        constraints: UpTo::new(NO_CONSTRAINT),
+    };
+    lay(&mut joint.cells, left.cells(), right.cells());
+    lay(
+        &mut joint.constraints,
+        left.constraints(),
+        right.constraints(),
+    );
+    joint
 }

@@ -51,16 +51,17 @@ impl Shift for Constraint {
     }
 }
 
-// The left items, and behind them the right ones shifted.
-pub fn lay<T: Shift + Copy, const N: usize>(left: &[T], right: &[T], blank: T) -> UpTo<T, N>
-    requires few { length left.now + length right.now ≤ N }
+// The left items, and behind them the right ones shifted, are laid behind what lies there: in place, so that nothing is copied on the way.
+pub fn lay<T: Shift + Copy, const N: usize>(laid: &mut UpTo<T, N>, left: &[T], right: &[T])
+    requires few { length (items laid.old) + length left.now + length right.now ≤ N }
     requires small { AllByRecursion T.Shift.small right.now }
-    ensures { items result ≡ left.now ++ map T.Shift.shifted right.now }
+    ensures { items laid.new ≡ items laid.old ++ (left.now ++ map T.Shift.shifted right.now) }
 {
-    let mut laid = UpTo::of(left, blank);
-    // pushed one by one, each shifted
-    for item in right {
-        laid.push(item.shift());
+    // pushed one by one
+    for item in left {
+        laid.push(*item);
     }
-    laid
+    for other in right {
+        laid.push(other.shift());
+    }
 }

@@ -63,11 +63,16 @@ impl Terms<'_> {
         requires { i < length self.now.cells.now }
         ensures { Ready self.now.signature.now.arities self.now.cells.now wait i result }
     {
-        // not `any`: that a variable has a place in `wait` is known of the term's cells, and not of what a closure is given
-        for cell in self.term(i) {
+        let mut to_come = 1;
+        // not `any`: it ends where no term is to come, and that a variable has a place in `wait` is known of these cells alone
+        for cell in &self.cells[i..] {
+            if to_come == 0 {
+                break;
+            }
             if cell.letter == b'V' && wait[cell.number as usize] {
                 return false;
             }
+            to_come = to_come - 1 + self.signature.arity(*cell);
         }
         true
     }

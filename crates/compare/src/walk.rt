@@ -1,6 +1,6 @@
 // Terms that lie one behind the other, and ways through them: past a term, and from a bound variable to what it stands for.
 ghost use Rattle.std.specs.Prelude.{◌≡◌, ◌<◌, ◌≤◌, length, drop, MatchOption};
-ghost use Rattle.unification.specs.Fronts.{after, part};
+ghost use Rattle.unification.specs.Fronts.{after};
 ghost use Rattle.unification.specs.Sheets.{Good, Straight, Derefs, entry};
 ghost use Rattle.unification.proofs.Theory.{good_prop};
 
@@ -15,7 +15,7 @@ pub struct Terms<'a> {
     ghost good: { Good signature.now.arities cells.now } by { good_prop signature.now.arities cells.now },
 }
 
-impl<'a> Terms<'a> {
+impl Terms<'_> {
     // The place behind the term at `i`.
     pub fn skip(&self, i: usize) -> usize
         requires { i < length self.now.cells.now }
@@ -30,14 +30,6 @@ impl<'a> Terms<'a> {
             at += 1;
         }
         at
-    }
-
-    // The cells of the term at `i`.
-    pub fn term(&self, i: usize) -> &'a [Cell]
-        requires { i < length self.now.cells.now }
-        ensures { result.now ≡ part self.now.signature.now.arities self.now.cells.now i 1 }
-    {
-        &self.cells[i..self.skip(i)]
     }
 }
 

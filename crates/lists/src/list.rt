@@ -22,12 +22,12 @@ impl<T: Copy, const N: usize> UpTo<T, N> {
         requires { length from.now ≤ N }
         ensures { items result ≡ from.now }
     {
-        let mut list = UpTo::new(blank);
-        // the loop that fills a list from a slice; where others push, each item is worked out on the way, and an `extend` would be no shorter
-        for item in from {
-            list.push(*item);
+        let mut slots = [blank; N];
+        slots[..from.len()].copy_from_slice(from);
+        UpTo {
+            slots,
+            len: from.len(),
         }
-        list
     }
 
     // The items of a slice; absent exactly where they are too many.

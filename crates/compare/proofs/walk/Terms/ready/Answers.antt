@@ -1,25 +1,89 @@
-use Rattle.std.proofs.Common.{ℕ, false, length, get_or, sym, ap, ◌∙◌, subst, arith}
+use Rattle.std.proofs.Common.{◌≡◌, ℕ, ◌-◌, ◌<◌, false, List, length, get_or, take, drop, sym, ap, ◌∙◌, subst, refl, inl, inr, arith, length-drop}
 use Rattle.std.proofs.lemmas.Bool.{true≢false}
-use Rattle.unification.specs.Fronts.{at, part}
+use Rattle.std.proofs.lemmas.List.{take_all}
+use Rattle.std.proofs.ByRecursion.{All-get_or, All-from_get_or, All-drop}
+use Rattle.terms.specs.declared.cell.Cell.{Cell}
+use Rattle.unification.specs.Fronts.{Begins, terms, at}
+use Rattle.unification.specs.Sequences.{Lacks}
+use Rattle.unification.specs.Sheets.{Good}
 use Rattle.unification.specs.Orders.{Has}
-use Rattle.unification.proofs.Cells.{part_vars}
-use Rattle.unification.proofs.Lines.{lacks_all, has_at}
+use Rattle.unification.proofs.Theory.{begins_length, terms_none}
+use Rattle.unification.proofs.Places.{step}
 use Rattle.compare.proofs.walk.Terms.ready.Goals as goal
+use Rattle.compare.proofs.walk.Terms.ready.Goals.{else-cell-eq86-via-then-cell-eq86+else-wait-cell, else-cell-eq86-via-else-cell-eq86}
 
-pub bounds-wait-cell : goal.bounds-wait-cell
-bounds-wait-cell c = rw c.term-cell-items.ensures (part_vars _ _ _ _ c.args.self.now.good (rw c.term-cell-items.ensures at c.loop-cell-test.true) (rw c.term-cell-items.ensures at c.if-cell-eq86.true))
+-- the cells from a place on, as the loop goes through them
+rest : (cells : List Cell) (i : ℕ) → take (length cells - i) (drop i cells) ≡ drop i cells
+rest cells i = take_all (length cells - i) (drop i cells) (omega (arith, length-drop i cells))
+
+variable_small : (sig : List ℕ) (cells : List Cell) (i k : ℕ) → Good sig cells → k < length (take (length cells - i) (drop i cells))
+    → (at (take (length cells - i) (drop i cells)) k).letter ≡ 86 → (at (take (length cells - i) (drop i cells)) k).number < 16
+variable_small sig cells i k g =
+    let Small : Cell → Type 0 = λ c. c.letter ≡ 86 → c.number < 16 in
+    let none : Cell = record { letter = 0; number = 0 } in
+    subst (λ xs. k < length xs → Small (at xs k)) (sym (rest cells i)) (λ l. All-get_or Small (drop i cells) k none l (All-drop Small i cells (All-from_get_or Small cells none g.vars)))
+
+lacks_none : (sig : List ℕ) (cells : List Cell) (i n y : ℕ) → n ≡ 0 → Lacks y (terms sig n (drop i cells))
+lacks_none sig cells i n y z = subst (Lacks y) (sym (ap (λ (m : ℕ). terms sig m (drop i cells)) z ∙ terms_none sig (drop i cells))) tt
+
+pub loop-cell-init : goal.loop-cell-init
+loop-cell-init c =
+    let good = c.args.self.now.good in
+    (subst (Begins c.args.self.now.signature.now.arities 1) (sym (rest c.args.self.now.cells.now c.args.i)) (good.whole c.args.i c.requires), (λ y o k. k), (λ y h. h))
 
 pub returns-then-wait-cell : goal.returns-then-wait-cell
 returns-then-wait-cell c =
-    let e = c.term-cell-items.ensures in
-    let k = c.loop-cell.cell-index in
-    let v = c.if-cell-eq86.true in (
-      (at c.term-cell-items.result.now k).number,
-      bounds-wait-cell c.before,
+    let sig = c.args.self.now.signature.now.arities in
+    let cells = c.args.self.now.cells.now in
+    let xs = take (length cells - c.args.i) (drop c.args.i cells) in
+    let k : ℕ = c.loop-cell.cell-index in
+    let s = step sig xs k c.loop-cell.to_come c.loop-cell.invariant.0 (omega arith) in (
+      (at xs k).number,
+      variable_small sig cells c.args.i k c.args.self.now.good c.loop-cell-test.true c.if-cell-eq86.true,
       c.if-wait-cell.true,
-      subst (Has (at c.term-cell-items.result.now k).number) e (has_at c.term-cell-items.result.now k c.loop-cell-test.true v),
+      subst (Has (at xs k).number) (ap (terms sig 1) (rest cells c.args.i))
+          (c.loop-cell.invariant.2 _ (subst (Has (at xs k).number) (sym s.front) (inl (c.if-cell-eq86.true, refl)))),
     )
 
-pub returns : goal.returns
-returns c = λ y o. lacks_all y (part c.args.self.now.signature.now.arities c.args.self.now.cells.now c.args.i 1) (λ k l v e.
-    true≢false (sym o ∙ ap (λ (z : ℕ). get_or c.args.wait z false) (sym e) ∙ c.loop-cell.invariant k (omega (arith, ap length c.term-cell-items.ensures)) v))
+pub overflow_add-to_come : goal.overflow_add-to_come
+overflow_add-to_come c =
+    let sig = c.args.self.now.signature.now.arities in
+    let cells = c.args.self.now.cells.now in
+    let xs = take (length cells - c.args.i) (drop c.args.i cells) in
+    let s = step sig xs c.loop-cell.cell-index c.loop-cell.to_come c.loop-cell.invariant.0 (omega arith) in
+    omega (arith, s.few, c.arity.ensures.value, c.args.self.now.good.few, ap length (rest cells c.args.i), length-drop c.args.i cells)
+
+pub loop-cell-preserved : goal.loop-cell-preserved
+loop-cell-preserved c =
+    let sig = c.args.self.now.signature.now.arities in
+    let cells = c.args.self.now.cells.now in
+    let xs = take (length cells - c.args.i) (drop c.args.i cells) in
+    let k : ℕ = c.loop-cell.cell-index in
+    let s = step sig xs k c.loop-cell.to_come c.loop-cell.invariant.0 (omega arith) in
+    let e = c.arity.ensures.value in (
+      rw e s.begins,
+      (λ y o h. c.loop-cell.invariant.1 y o (subst (Lacks y) (sym s.front) (
+        (λ v f. elim c.else-cell-eq86.branch [
+          | else-cell-eq86-via-then-cell-eq86+else-wait-cell w ↦ true≢false (sym o ∙ ap (λ (z : ℕ). get_or c.args.wait z false) (sym f) ∙ w.if-wait-cell.false)
+          | else-cell-eq86-via-else-cell-eq86 w ↦ w.if-cell-eq86.false v
+        ]),
+        (rw e at h),
+      ))),
+      (λ y h. c.loop-cell.invariant.2 y (subst (Has y) (sym s.front) (inr (rw e at h)))),
+    )
+
+pub returns-after-loop-cell : goal.returns-after-loop-cell
+returns-after-loop-cell c =
+    let sig = c.args.self.now.signature.now.arities in
+    let cells = c.args.self.now.cells.now in
+    let xs = take (length cells - c.args.i) (drop c.args.i cells) in
+    let k : ℕ = c.loop-cell.cell-index in
+    let z : c.loop-cell.to_come ≡ 0 = omega (arith, begins_length sig c.loop-cell.to_come (drop k xs) c.loop-cell.invariant.0, length-drop k xs) in
+    λ y o. subst (Lacks y) (ap (terms sig 1) (rest cells c.args.i)) (c.loop-cell.invariant.1 y o (lacks_none sig xs k c.loop-cell.to_come y z))
+
+pub returns-then-to_come-eq0 : goal.returns-then-to_come-eq0
+returns-then-to_come-eq0 c =
+    let sig = c.args.self.now.signature.now.arities in
+    let cells = c.args.self.now.cells.now in
+    let xs = take (length cells - c.args.i) (drop c.args.i cells) in
+    λ y o. subst (Lacks y) (ap (terms sig 1) (rest cells c.args.i)) (c.loop-cell.invariant.1 y o (lacks_none sig xs c.loop-cell.cell-index c.loop-cell.to_come y c.if-to_come-eq0.true))
