@@ -1,9 +1,14 @@
-use Rattle.std.proofs.Common.{ℕ, ◌<◌, subst}
+use Rattle.std.proofs.Common.{◌≡◌, ℕ, ◌<◌, ap, ◌∙◌, subst, arith}
+use Rattle.std.proofs.lemmas.Grind.{common_steps}
+use Rattle.terms.specs.declared.cell.Cell.{Cell}
 use Rattle.compare.specs.Roots.{constraint_at}
 use Rattle.compare.specs.Settling.{WithinCells}
 use Rattle.compare.proofs.Values.{fails_class, settled_class, settled_term}
 use Rattle.compare.proofs.classes.settle.Goals as goal
 use Rattle.compare.proofs.classes.settle.Goals.{in-Variable+in_ok-value-in-Variable, in-Term+else-not-meets}
+
+abbrev cell : ℕ → ℕ → Cell
+cell l n = record { letter = l; number = n }
 
 pub returns-in_err-value-in-Variable : goal.returns-in_err-value-in-Variable
 returns-in_err-value-in-Variable g c =
@@ -19,11 +24,14 @@ loop-constraint-preserved g c =
     let ks = c.args.constraints.now in
     let i : ℕ = c.loop-constraint.constraint-index in
     let fills = c.loop-constraint.fills in
+    -- by whatever steps the value becomes a cell
     elim c.match-roots-constraint.branch [
       | in-Variable+in_ok-value-in-Variable w ↦
           (let h = w.in_ok-value-in-Variable.ensures in
+          let value = w.in_ok-value-in-Variable.value in
+          let is : w.from.result ≡ cell value.letter value.code = w.from.ensures ∙ ap (cell value.letter) (grind (arith, common_steps)) in
           let small : w.in-Variable.y < 16 = subst (WithinCells cells) w.in-Variable.is (c.requires.rooted (constraint_at ks i).variable (c.requires.named i c.loop-constraint-test.true)) in
-          rw (w.fills-is, w.from.ensures)
+          rw (w.fills-is, is)
           (settled_class M cells rs ks fills i w.in-Variable.y w.in_ok-value-in-Variable.value.letter w.in_ok-value-in-Variable.value.code
           w.as_slice-rest.result.now c.loop-constraint-test.true small w.in-Variable.is (rw w.as_slice-rest.ensures w.gather-class.ensures) h.0 h.1 c.loop-constraint.invariant))
       | in-Term+else-not-meets w ↦
