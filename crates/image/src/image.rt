@@ -78,7 +78,9 @@ impl<'a> Store for Image<'a> {
         ensures places { lines_in self.new.lines.bytes.now ≡ lines_in self.old.lines.bytes.now }
         ensures lines { PutLines self.old.lines.bytes.now self.new.lines.bytes.now (cells_of key.now) (count_of count) result }
     {
-        let k = self.place_to_put(key).ok_or(StoreFault::Full)?;
+        let Some(k) = self.place_to_put(key) else {
+            return Err(StoreFault::Full);
+        };
         // the part itself is lent: nothing is said of what a slice ends as after `as_chunks_mut`
         let lines = &mut self.lines;
         encode(key, count, &mut lines.bytes[k * 128..k * 128 + 128]);

@@ -82,7 +82,9 @@ impl<'a> Store for Table<'a> {
 
     fn put(&mut self, key: &Row, count: Count) -> Result<(), StoreFault> {
         let entry = Entry { key: *key, count };
-        let k = self.place_to_put(key).ok_or(StoreFault::Full)?;
+        let Some(k) = self.place_to_put(key) else {
+            return Err(StoreFault::Full);
+        };
         self.records[k] = Some(entry);
         Ok(())
     }

@@ -1,7 +1,8 @@
-use Rattle.std.proofs.Common.{◌≡◌, ℕ, ◌^◌, ◌<◌, Bool, true, false, List, map, length, Decides, sym, refl, ap, ◌∙◌, arith}
+use Rattle.std.proofs.Common.{◌≡◌, ℕ, ◌^◌, ◌<◌, Bool, true, false, List, map, length, Option, Decides, sym, refl, ap, ◌∙◌, subst, arith}
 use Rattle.std.specs.Bool.{then_some}
 use Rattle.std.specs.Int.Digits.{number_from_digits}
 use Rattle.std.proofs.lemmas.Bool.{false≢true}
+use Rattle.std.proofs.lemmas.Grind.{common_steps}
 use Rattle.columns.specs.Columns.{columns, Reads}
 use Rattle.columns.specs.Steps.{worth}
 use Rattle.columns.proofs.Numbers.{reads_back}
@@ -16,9 +17,10 @@ returns-in_err-n c =
     rw c.from_residual.ensures
     (λ n h s. let e = back c.args.part.now n h s in let l = c.in_err-n.ensures in omega arith)
 
-read : (part : List ℕ) (n : ℕ) (b : Bool) → n ≡ number_from_digits 10 (map worth part) → Decides b (part ≡ columns (length part) n) → Reads part (then_some b n)
-read part n true e d = d.0 refl
-read part n false e d = λ m h s. let same : m ≡ n = back part m h s ∙ sym e in false≢true (d.1 (s ∙ ap (columns (length part)) same))
+read : (part : List ℕ) (n : ℕ) (b : Bool) (r : Option ℕ) → n ≡ number_from_digits 10 (map worth part) → Decides b (part ≡ columns (length part) n) → r ≡ then_some b n → Reads part r
+read part n true r e d s = subst (Reads part) (sym s) (d.0 refl)
+read part n false r e d s = subst (Reads part) (sym s) (λ m h t. let same : m ≡ n = back part m h t ∙ sym e in false≢true (d.1 (t ∙ ap (columns (length part)) same)))
 
+-- by whatever steps the answer is the number where the columns show it, and else absent
 pub returns : goal.returns
-returns c = rw c.then_some.ensures (read c.args.part.now c.in_ok-n.n c.shows.result c.in_ok-n.ensures c.shows.ensures)
+returns c = read c.args.part.now c.in_ok-n.n c.shows.result _ c.in_ok-n.ensures c.shows.ensures (grind (arith, common_steps))

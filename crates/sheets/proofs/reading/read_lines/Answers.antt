@@ -1,5 +1,6 @@
 use Rattle.std.proofs.Common.{◌≡◌, ℕ, ◌<◌, ◌≤◌, List, [], ◌∷◌, ◌++◌, map, length, None, vec_items, sym, refl, ap, ◌∙◌, subst, append-nil, arith, true-eqb, false-eqb}
 use Rattle.std.specs.Option.{option_map}
+use Rattle.std.proofs.lemmas.Grind.{common_steps}
 use Rattle.std.proofs.lemmas.List.{map-append}
 use Rattle.requests.specs.Layout.{asked_of}
 use Rattle.sheets.specs.Sheets.{ReadEach, unended}
@@ -30,7 +31,7 @@ returns c =
         all = ap (λ v. map (option_map asked_of) (vec_items v)) w.lines-is
             ∙ ap (map (option_map asked_of)) w.in_ok-push.ensures.items
             ∙ map-append (option_map asked_of) (vec_items c.in_ok-lines.lines) (None ∷ [])
-            ∙ ap (λ k. asked ++ k) (sym (some rest (omega (arith, false-eqb _ _ (sym w.if-not-is_empty.true ∙ c.is_empty.ensures)))));
+            ∙ ap (λ k. asked ++ k) (sym (some rest (grind (arith, common_steps, false-eqb _ _ (sym w.if-not-is_empty.true ∙ c.is_empty.ensures)))));
       }
       | else-not-is_empty w ↦ record {
         ended = map (λ x. x.now) (vec_items split.ended);
@@ -38,6 +39,6 @@ returns c =
         lines = c.in_ok-split.ensures;
         asked = asked;
         read = read;
-        all = ap (λ v. map (option_map asked_of) (vec_items v)) w.lines-is ∙ sym (append-nil asked) ∙ ap (λ k. asked ++ k) (sym (none rest (omega (arith, true-eqb _ _ (sym w.if-not-is_empty.false ∙ c.is_empty.ensures)))));
+        all = ap (λ v. map (option_map asked_of) (vec_items v)) w.lines-is ∙ sym (append-nil asked) ∙ ap (λ k. asked ++ k) (sym (none rest (grind (arith, common_steps, true-eqb _ _ (sym w.if-not-is_empty.false ∙ c.is_empty.ensures)))));
       }
     ]

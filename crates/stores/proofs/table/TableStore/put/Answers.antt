@@ -1,11 +1,9 @@
 use Rattle.std.proofs.Common.{Some, refl, ⊎_elim, arith}
-use Rattle.std.proofs.lemmas.Result.{err_from_is_err_and}
 use Rattle.std.proofs.lemmas.List.{length-set}
 use Rattle.stores.specs.declared.count.Count.{Count}
 use Rattle.stores.specs.declared.entry.Entry.{Entry}
 use Rattle.terms.specs.declared.row.Row.{Row}
 use Rattle.stores.proofs.Changes.{replace_apart, replace_put, add_apart, add_put, full_put}
-use Rattle.stores.proofs.Finding.{when_some, when_none, none_err}
 use Rattle.stores.proofs.table.TableStore.put.Goals as goal
 
 -- the entry that is written
@@ -17,12 +15,12 @@ invariant_of-self c =
     let t = c.args.self.now in
     let rs = t.records.now in
     let e = new c.args.key.now c.args.count in
-    let k = c.in_ok-k.k in
+    let k = c.in-Some.k in
     let long = length-set rs k (Some e) in
     let few = t.few in
     let some = t.some in
     record {
-      apart = ⊎_elim (λ at. replace_apart rs t.apart e k at) (λ f. add_apart rs t.apart e f.0 k f.1) (when_some _ _ c.in_ok-k.ensures.ok_part c.place_to_put.ensures).1;
+      apart = ⊎_elim (λ at. replace_apart rs t.apart e k at) (λ f. add_apart rs t.apart e f.0 k f.1) c.in-Some.ensures.1;
       some = omega arith;
       few = omega arith;
     }
@@ -32,19 +30,16 @@ returns c =
     let t = c.args.self.now in
     let rs = t.records.now in
     let e = new c.args.key.now c.args.count in
-    let k = c.in_ok-k.k in
+    let k = c.in-Some.k in
     record {
-      put = ⊎_elim (λ at. replace_put rs t.apart e k at) (λ f. add_put rs t.apart e f.0 k f.1) (when_some _ _ c.in_ok-k.ensures.ok_part c.place_to_put.ensures).1;
+      put = ⊎_elim (λ at. replace_put rs t.apart e k at) (λ f. add_put rs t.apart e f.0 k f.1) c.in-Some.ensures.1;
       places = length-set rs k (Some e);
     }
 
-pub returns-in_err-k : goal.returns-in_err-k
-returns-in_err-k c =
+pub returns-in_default : goal.returns-in_default
+returns-in_default c =
     let t = c.args.self.now in
-    let p = err_from_is_err_and c.from_residual.result c.from_residual.ensures.1 in
-    let full = none_err c.in_err-k.ensures.value c.in_err-k.ensures.ok_part in
-    let none = when_none _ _ c.in_err-k.ensures.ok_part c.place_to_put.ensures in
     record {
-      put = rw (p.1, p.2, full) (full_put t.records.now t.apart (new c.args.key.now c.args.count) none.0 none.1);
+      put = full_put t.records.now t.apart (new c.args.key.now c.args.count) c.in_default.ensures.0 c.in_default.ensures.1;
       places = refl;
     }
