@@ -78,6 +78,7 @@ impl<'a> Store for Image<'a> {
         ensures places { lines_in self.new.lines.bytes.now ≡ lines_in self.old.lines.bytes.now }
         ensures lines { PutLines self.old.lines.bytes.now self.new.lines.bytes.now (cells_of key.now) (count_of count) result }
     {
+        // not `ok_or(..)?`: the refusal in an arm of its own is one word, which an edit can spoil alone
         let Some(k) = self.place_to_put(key) else {
             return Err(StoreFault::Full);
         };

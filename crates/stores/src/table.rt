@@ -82,6 +82,7 @@ impl<'a> Store for Table<'a> {
 
     fn put(&mut self, key: &Row, count: Count) -> Result<(), StoreFault> {
         let entry = Entry { key: *key, count };
+        // not `ok_or(..)?`: the refusal in an arm of its own is one word, which an edit can spoil alone
         let Some(k) = self.place_to_put(key) else {
             return Err(StoreFault::Full);
         };
