@@ -168,12 +168,17 @@ opens_counted = is_count_by opens (λ b. b) refl step
     step true bs = omega arith
     step false bs = refl
 
--- cells that are looked through one after another
-pub lacks_all : (y : ℕ) (cs : List Cell) → ((k : ℕ) → k < length cs → (at cs k).letter ≡ 86 → (at cs k).number ≡ y → ⊥) → Lacks y cs
-lacks_all y [] h = tt
-lacks_all y (c ∷ cs) h = (h 0 (omega arith), lacks_all y cs (λ k l. h (suc k) (omega arith)))
+-- one cell of a term that is looked through
+pub lacks_more : (sig : List ℕ) (cells : List Cell) (i n y : ℕ) → Begins sig n (drop i cells) → 0 < n → ((at cells i).letter ≡ 86 → (at cells i).number ≡ y → ⊥)
+    → Lacks y (terms sig (n - 1 + arity sig (at cells i)) (drop (i + 1) cells)) → Lacks y (terms sig n (drop i cells))
+lacks_more sig cells i n y b pos h k = subst (Lacks y) (sym (step sig cells i n b pos).front) (h, k)
 
-pub has_at : (cs : List Cell) (k : ℕ) → k < length cs → (at cs k).letter ≡ 86 → Has (at cs k).number cs
-has_at [] k l v = absurd (omega arith)
-has_at (c ∷ cs) zero l v = inl (v, refl)
-has_at (c ∷ cs) (suc k) l v = inr (has_at cs k (omega arith) v)
+pub has_more : (sig : List ℕ) (cells : List Cell) (i n y : ℕ) → Begins sig n (drop i cells) → 0 < n
+    → Has y (terms sig (n - 1 + arity sig (at cells i)) (drop (i + 1) cells)) → Has y (terms sig n (drop i cells))
+has_more sig cells i n y b pos h = subst (Has y) (sym (step sig cells i n b pos).front) (inr h)
+
+pub has_here : (sig : List ℕ) (cells : List Cell) (i n : ℕ) → Begins sig n (drop i cells) → 0 < n → (at cells i).letter ≡ 86 → Has (at cells i).number (terms sig n (drop i cells))
+has_here sig cells i n b pos v = subst (Has (at cells i).number) (sym (step sig cells i n b pos).front) (inl (v, refl))
+
+pub lacks_none : (sig : List ℕ) (cs : List Cell) (n y : ℕ) → n ≡ 0 → Lacks y (terms sig n cs)
+lacks_none sig cs n y z = subst (Lacks y) (sym (ap (λ (m : ℕ). terms sig m cs) z ∙ terms_none sig cs)) tt

@@ -1,4 +1,4 @@
-use Rattle.std.proofs.Common.{◌≡◌, ℕ, ◌-◌, ◌<◌, false, List, length, get_or, take, drop, sym, ap, ◌∙◌, subst, refl, inl, inr, arith, length-drop}
+use Rattle.std.proofs.Common.{◌≡◌, ℕ, ◌-◌, ◌<◌, false, List, length, get_or, take, drop, sym, ap, ◌∙◌, subst, arith, length-drop}
 use Rattle.std.proofs.lemmas.Bool.{true≢false}
 use Rattle.std.proofs.lemmas.List.{take_all}
 use Rattle.std.proofs.ByRecursion.{All-get_or, All-from_get_or, All-drop}
@@ -7,8 +7,9 @@ use Rattle.unification.specs.Fronts.{Begins, terms, at}
 use Rattle.unification.specs.Sequences.{Lacks}
 use Rattle.unification.specs.Sheets.{Good}
 use Rattle.unification.specs.Orders.{Has}
-use Rattle.unification.proofs.Theory.{begins_length, terms_none}
+use Rattle.unification.proofs.Theory.{begins_length}
 use Rattle.unification.proofs.Places.{step}
+use Rattle.unification.proofs.Lines.{lacks_more, has_more, has_here, lacks_none}
 use Rattle.compare.proofs.walk.Terms.ready.Goals as goal
 use Rattle.compare.proofs.walk.Terms.ready.Goals.{else-cell-eq86-via-then-cell-eq86+else-wait-cell, else-cell-eq86-via-else-cell-eq86}
 
@@ -23,9 +24,6 @@ variable_small sig cells i k g =
     let none : Cell = record { letter = 0; number = 0 } in
     subst (λ xs. k < length xs → Small (at xs k)) (sym (rest cells i)) (λ l. All-get_or Small (drop i cells) k none l (All-drop Small i cells (All-from_get_or Small cells none g.vars)))
 
-lacks_none : (sig : List ℕ) (cells : List Cell) (i n y : ℕ) → n ≡ 0 → Lacks y (terms sig n (drop i cells))
-lacks_none sig cells i n y z = subst (Lacks y) (sym (ap (λ (m : ℕ). terms sig m (drop i cells)) z ∙ terms_none sig (drop i cells))) tt
-
 pub loop-cell-init : goal.loop-cell-init
 loop-cell-init c =
     let good = c.args.self.now.good in
@@ -36,13 +34,12 @@ returns-then-wait-cell c =
     let sig = c.args.self.now.signature.now.arities in
     let cells = c.args.self.now.cells.now in
     let xs = take (length cells - c.args.i) (drop c.args.i cells) in
-    let k : ℕ = c.loop-cell.cell-index in
-    let s = step sig xs k c.loop-cell.to_come c.loop-cell.invariant.0 (omega arith) in (
+    let k : ℕ = c.loop-cell.cell-index in (
       (at xs k).number,
       variable_small sig cells c.args.i k c.args.self.now.good c.loop-cell-test.true c.if-cell-eq86.true,
       c.if-wait-cell.true,
       subst (Has (at xs k).number) (ap (terms sig 1) (rest cells c.args.i))
-          (c.loop-cell.invariant.2 _ (subst (Has (at xs k).number) (sym s.front) (inl (c.if-cell-eq86.true, refl)))),
+          (c.loop-cell.invariant.2 _ (has_here sig xs k c.loop-cell.to_come c.loop-cell.invariant.0 (omega arith) c.if-cell-eq86.true)),
     )
 
 pub overflow_add-to_come : goal.overflow_add-to_come
@@ -59,17 +56,17 @@ loop-cell-preserved c =
     let cells = c.args.self.now.cells.now in
     let xs = take (length cells - c.args.i) (drop c.args.i cells) in
     let k : ℕ = c.loop-cell.cell-index in
-    let s = step sig xs k c.loop-cell.to_come c.loop-cell.invariant.0 (omega arith) in
+    let n : ℕ = c.loop-cell.to_come in
+    let b = c.loop-cell.invariant.0 in
+    let s = step sig xs k n b (omega arith) in
     let e = c.arity.ensures.value in (
       rw e s.begins,
-      (λ y o h. c.loop-cell.invariant.1 y o (subst (Lacks y) (sym s.front) (
-        (λ v f. elim c.else-cell-eq86.branch [
-          | else-cell-eq86-via-then-cell-eq86+else-wait-cell w ↦ true≢false (sym o ∙ ap (λ (z : ℕ). get_or c.args.wait z false) (sym f) ∙ w.if-wait-cell.false)
-          | else-cell-eq86-via-else-cell-eq86 w ↦ w.if-cell-eq86.false v
-        ]),
-        (rw e at h),
-      ))),
-      (λ y h. c.loop-cell.invariant.2 y (subst (Has y) (sym s.front) (inr (rw e at h)))),
+      (λ y o h. c.loop-cell.invariant.1 y o (lacks_more sig xs k n y b (omega arith)
+          (λ v f. elim c.else-cell-eq86.branch [
+            | else-cell-eq86-via-then-cell-eq86+else-wait-cell w ↦ true≢false (sym o ∙ ap (λ (z : ℕ). get_or c.args.wait z false) (sym f) ∙ w.if-wait-cell.false)
+            | else-cell-eq86-via-else-cell-eq86 w ↦ w.if-cell-eq86.false v
+          ]) (rw e at h))),
+      (λ y h. c.loop-cell.invariant.2 y (has_more sig xs k n y b (omega arith) (rw e at h))),
     )
 
 pub returns-after-loop-cell : goal.returns-after-loop-cell
@@ -79,11 +76,11 @@ returns-after-loop-cell c =
     let xs = take (length cells - c.args.i) (drop c.args.i cells) in
     let k : ℕ = c.loop-cell.cell-index in
     let z : c.loop-cell.to_come ≡ 0 = omega (arith, begins_length sig c.loop-cell.to_come (drop k xs) c.loop-cell.invariant.0, length-drop k xs) in
-    λ y o. subst (Lacks y) (ap (terms sig 1) (rest cells c.args.i)) (c.loop-cell.invariant.1 y o (lacks_none sig xs k c.loop-cell.to_come y z))
+    λ y o. subst (Lacks y) (ap (terms sig 1) (rest cells c.args.i)) (c.loop-cell.invariant.1 y o (lacks_none sig (drop k xs) c.loop-cell.to_come y z))
 
 pub returns-then-to_come-eq0 : goal.returns-then-to_come-eq0
 returns-then-to_come-eq0 c =
     let sig = c.args.self.now.signature.now.arities in
     let cells = c.args.self.now.cells.now in
     let xs = take (length cells - c.args.i) (drop c.args.i cells) in
-    λ y o. subst (Lacks y) (ap (terms sig 1) (rest cells c.args.i)) (c.loop-cell.invariant.1 y o (lacks_none sig xs c.loop-cell.cell-index c.loop-cell.to_come y c.if-to_come-eq0.true))
+    λ y o. subst (Lacks y) (ap (terms sig 1) (rest cells c.args.i)) (c.loop-cell.invariant.1 y o (lacks_none sig (drop c.loop-cell.cell-index xs) c.loop-cell.to_come y c.if-to_come-eq0.true))
