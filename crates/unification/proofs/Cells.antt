@@ -1,7 +1,7 @@
 -- What is known of each cell, and what substitution keeps of it.
-use Rattle.std.proofs.Common.{◌≡◌, ℕ, zero, suc, ◌+◌, ◌<◌, Bool, true, false, cond, eqb, List, [], ◌∷◌, ◌++◌, get_or, drop, MatchBool, sym, refl, ap, ◌∙◌, subst, inl, inr, arith}
+use Rattle.std.proofs.Common.{◌≡◌, ℕ, zero, suc, ◌+◌, ◌<◌, Bool, true, false, cond, eqb, List, [], ◌∷◌, ◌++◌, length, get_or, drop, MatchBool, sym, refl, ap, ◌∙◌, subst, inl, inr, arith}
 use Rattle.std.specs.List.{AllByRecursion}
-use Rattle.std.proofs.ByRecursion.{All-append, All-get_or, All-drop, All-weaker}
+use Rattle.std.proofs.ByRecursion.{All-append, All-get_or, All-from_get_or, All-drop, All-weaker}
 use Rattle.std.proofs.lemmas.Bool.{eq-eqb, ne_eqb}
 use Rattle.std.proofs.lemmas.Bool.Decides.{eqb_tells}
 use Rattle.kinds.specs.Meaning.{Meaning, Value, Sound, Under}
@@ -10,6 +10,7 @@ use Rattle.terms.specs.Terms.{arity, Are, Fine, Subst, image, apply}
 use Rattle.terms.specs.Fitting.{Ground}
 use Rattle.unification.specs.Fronts.{terms, at, part}
 use Rattle.unification.specs.Unifiers.{var, Replacement, single, sequence}
+use Rattle.unification.specs.Sheets.{Good}
 use Rattle.unification.specs.Pairs.{Below}
 use Rattle.unification.proofs.Theory.{var_or, image_var, image_fix, are_apply}
 
@@ -57,6 +58,13 @@ pub all_terms : (P : Cell → Type 0) (sig : List ℕ) (n : ℕ) (cs : List Cell
 all_terms P sig n [] h = tt
 all_terms P sig zero (c ∷ cs) h = tt
 all_terms P sig (suc n) (c ∷ cs) h = (h.0, all_terms P sig (arity sig c + n) cs h.1)
+
+-- the variables of a part are the cells' own
+pub part_vars : (sig : List ℕ) (cells : List Cell) (i k : ℕ) → Good sig cells → k < length (part sig cells i 1) → (at (part sig cells i 1) k).letter ≡ 86 → (at (part sig cells i 1) k).number < 16
+part_vars sig cells i k g l =
+    let Small : Cell → Type 0 = λ c. c.letter ≡ 86 → c.number < 16 in
+    let none : Cell = record { letter = 0; number = 0 } in
+    All-get_or Small (part sig cells i 1) k none l (all_terms Small sig 1 (drop i cells) (All-drop Small i cells (All-from_get_or Small cells none g.vars)))
 
 -- a sequence whose terms stand among steady cells keeps them steady
 pub sequence_steady : (M : Meaning) (sig : List ℕ) (cells : List Cell) → AllByRecursion (Steady M) cells → (bs : List Replacement)

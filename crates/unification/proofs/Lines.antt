@@ -182,3 +182,13 @@ has_here sig cells i n b pos v = subst (Has (at cells i).number) (sym (step sig 
 
 pub lacks_none : (sig : List ℕ) (cs : List Cell) (n y : ℕ) → n ≡ 0 → Lacks y (terms sig n cs)
 lacks_none sig cs n y z = subst (Lacks y) (sym (ap (λ (m : ℕ). terms sig m cs) z ∙ terms_none sig cs)) tt
+
+-- cells that are looked through one after another
+pub lacks_all : (y : ℕ) (cs : List Cell) → ((k : ℕ) → k < length cs → (at cs k).letter ≡ 86 → (at cs k).number ≡ y → ⊥) → Lacks y cs
+lacks_all y [] h = tt
+lacks_all y (c ∷ cs) h = (h 0 (omega arith), lacks_all y cs (λ k l. h (suc k) (omega arith)))
+
+pub has_at : (cs : List Cell) (k : ℕ) → k < length cs → (at cs k).letter ≡ 86 → Has (at cs k).number cs
+has_at [] k l v = absurd (omega arith)
+has_at (c ∷ cs) zero l v = inl (v, refl)
+has_at (c ∷ cs) (suc k) l v = inr (has_at cs k (omega arith) v)
