@@ -34,6 +34,7 @@ fn width_of(n: u32) -> usize
 }
 
 // Writes a number to the right, after spaces; refused where it has more digits than there are columns.
+// Column by column, here and where it is read: a list of the digits, lent or handed on, took more than twice the time.
 pub fn write_number(n: u32, part: &mut [u8]) -> Result<(), NoRoom>
     ensures { Writes (decimal n) part.old part.new result }
 {
